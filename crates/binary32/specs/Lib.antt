@@ -1,0 +1,13 @@
+pub mod Words
+pub mod WordsLaws
+pub mod Numbers
+pub mod ValueLaws
+pub mod Order
+pub mod OrderLaws
+pub mod Floor
+pub mod FloorLaws
+pub mod Whole
+pub mod Places
+pub mod PlacesLaws
+pub mod Quantize
+pub mod QuantizeLaws

@@ -1,0 +1,28 @@
+-- What the helpers of the code ask and give, beside what the papers name. Definitions only.
+use Prim.Native.Nat.{ℕ, _+_, _-_, _*_}
+use mathlib.Core.Bool.{Bool, false, not, _&&_, cond}
+use lib.Dec.{leb, ltb}
+use lib.Ieee.{Float, nan, inf, fin, up, down, lt}
+use Rattle.binary32.specs.Floor.{floorPart}
+
+-- x, but low where x is below it or NaN, and high where that is above it.
+unfoldable pub heldOf : Float → Float → Float → Float
+heldOf x low high = let y = cond (lt low x) x low in cond (lt high y) high y
+
+-- A number from +0 to below 256.
+unfoldable pub underByte : Float → Bool
+underByte nan = false
+underByte (inf s) = false
+underByte (fin s m e) = not s && ltb (m * up e) (256 * down e)
+
+-- A number from −128 to 127.
+unfoldable pub inSignedByte : Float → Bool
+inSignedByte nan = false
+inSignedByte (inf s) = false
+inSignedByte (fin s m e) = leb (m * up e) (cond s 128 127 * down e)
+
+-- 3 * 2 ^ 22 more than the floor of such a number.
+unfoldable pub raisedFloor : Float → ℕ
+raisedFloor nan = 0
+raisedFloor (inf s) = 0
+raisedFloor (fin s m e) = cond s (12582912 - floorPart s m e) (12582912 + floorPart s m e)
