@@ -1,0 +1,4 @@
+pub mod Root
+pub mod RootLaws
+pub mod Steps
+pub mod Closest
