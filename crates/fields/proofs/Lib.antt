@@ -1,0 +1,3 @@
+-- Facts that the functions' proofs cite, and the paper's cases.
+pub mod Casts
+mod Examples

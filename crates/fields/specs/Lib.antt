@@ -1,0 +1,9 @@
+pub mod Upload
+pub mod Colour
+pub mod Fixed
+pub mod ShortFloat
+pub mod QuotientLaws
+pub mod UploadLaws
+pub mod ColourLaws
+pub mod FixedLaws
+pub mod ShortFloatLaws
