@@ -1,0 +1,40 @@
+-- `vectors::plus` meets its contract: component by component, as the definition has it, and each index is below 3. Assumes nothing.
+use mathlib.Core.Path.{refl}
+use Rattle.vectors.specs.Vectors.{plusOf}
+use borrow.Author.Needs.{needs}
+use Rattle.vectors.proofs.plus.Statement.{statement}
+use Rattle.vectors.proofs.plus.Tie as tie
+
+array-read-t7 : tie.Need-array-read-t7
+array-read-t7 c = search needs
+
+array-read-t10 : tie.Need-array-read-t10
+array-read-t10 c = search needs
+
+array-read-t14 : tie.Need-array-read-t14
+array-read-t14 c = search needs
+
+array-read-t17 : tie.Need-array-read-t17
+array-read-t17 c = search needs
+
+array-read-t21 : tie.Need-array-read-t21
+array-read-t21 c = search needs
+
+array-read-t24 : tie.Need-array-read-t24
+array-read-t24 c = search needs
+
+returns : tie.Need-returns
+unfolding plusOf
+returns c = refl
+
+pub plus-spec : {M : Type 1} → statement M
+plus-spec =
+    tie.close
+    (tie.spec
+    array-read-t7
+    array-read-t10
+    array-read-t14
+    array-read-t17
+    array-read-t21
+    array-read-t24
+    returns)
