@@ -1,0 +1,13 @@
+pub mod Upload
+pub mod Generation
+pub mod Write
+pub mod Restore
+pub mod Lookup
+pub mod Answers
+pub mod Words
+pub mod WordsLaws
+pub mod GenerationLaws
+pub mod RefusalLaws
+pub mod UploadLaws
+pub mod WriteLaws
+pub mod RestoreLaws
