@@ -1,0 +1,95 @@
+-- The lights: how many are on, which light each slot holds, and a light from its block of registers. Definitions only.
+use Prim.Native.Nat.{ℕ, _+_, _*_, _/_, _^_}
+use mathlib.Core.Bool.{Bool, not, cond, _&&_}
+use mathlib.Core.List.{List, [], _∷_}
+use lib.Dec.{ltb}
+use lib.Ieee.{Float}
+use Rattle.fields.specs.Colour.{colourOf}
+use Rattle.fields.specs.Fixed.{fixedOf}
+use Rattle.fields.specs.ShortFloat.{shortFloat}
+use Rattle.vectors.specs.Vectors.{normalizedOf}
+use Rattle.lighting.specs.Blank.{blankLight}
+use Rattle.lighting.specs.declared.Slot.{Slot}
+use Rattle.lighting.specs.declared.LightNumber.{LightNumber}
+use Rattle.lighting.specs.declared.Distance.{Distance}
+use Rattle.lighting.specs.declared.Distance.the-variants.{Without, Scaled}
+use Rattle.lighting.specs.declared.Light.{Light}
+use Rattle.lights.specs.Registers.{regLights, regLightCount, regLightSlots, regConfig1, registerOf, bitsOf, flagOf}
+use Rattle.lights.specs.Supported.{tableSpotlight, configOf, supportedBy}
+
+-- how many lights are on
+unfoldable pub countOf : List ℕ → ℕ
+countOf f = bitsOf (registerOf f regLightCount) 0 3 + 1
+
+-- which light a slot holds
+unfoldable pub numberOf : List ℕ → Slot → LightNumber
+numberOf f slot = record { 0 = bitsOf (registerOf f regLightSlots) (slot .0 * 4) 3 }
+
+-- the word at an offset in a light's block
+unfoldable pub lightRegister : List ℕ → LightNumber → ℕ → ℕ
+lightRegister f n offset = registerOf f (regLights + n .0 * 0x10 + offset)
+
+unfoldable pub lightColour : List ℕ → LightNumber → ℕ → List Float
+lightColour f n offset = colourOf (lightRegister f n offset)
+
+-- three halves: the low and the high one of offset 4, and the low one of 5
+unfoldable pub positionOf : List ℕ → LightNumber → List Float
+positionOf f n =
+    shortFloat 10 5 (lightRegister f n 4)
+    ∷ shortFloat 10 5 (lightRegister f n 4 / 2 ^ 16)
+    ∷ shortFloat 10 5 (lightRegister f n 5)
+    ∷ []
+
+-- three 13-bit fields: 6 from bit 0, 6 from bit 16, 7 from bit 0
+unfoldable pub spotOf : List ℕ → LightNumber → List Float
+spotOf f n =
+    fixedOf (lightRegister f n 6)
+    ∷ fixedOf (lightRegister f n 6 / 2 ^ 16)
+    ∷ fixedOf (lightRegister f n 7)
+    ∷ []
+
+-- none where the bit of 1C4 for the light's number is set
+unfoldable pub distanceOf : List ℕ → LightNumber → Distance
+distanceOf f n =
+    cond (flagOf (registerOf f regConfig1) (24 + n .0))
+    Without
+    (Scaled (shortFloat 12 7 (lightRegister f n 0xA)) (shortFloat 12 7 (lightRegister f n 0xB)))
+
+unfoldable pub spotlitOf : List ℕ → LightNumber → Bool
+spotlitOf f n = not (flagOf (registerOf f regConfig1) (8 + n .0)) && supportedBy (configOf f) tableSpotlight
+
+unfoldable pub lightOf : List ℕ → LightNumber → Light
+lightOf f n =
+    record {
+      specular0 = lightColour f n 0;
+      specular1 = lightColour f n 1;
+      diffuse = lightColour f n 2;
+      ambient = lightColour f n 3;
+      position = positionOf f n;
+      direction = normalizedOf (positionOf f n);
+      spot = spotOf f n;
+      directional = flagOf (lightRegister f n 9) 0;
+      «two_sided» = flagOf (lightRegister f n 9) 1;
+      geometric0 = flagOf (lightRegister f n 9) 2;
+      geometric1 = flagOf (lightRegister f n 9) 3;
+      distance = distanceOf f n;
+      spotlight = spotlitOf f n;
+      shadowed = not (flagOf (registerOf f regConfig1) (n .0));
+      number = n;
+    }
+
+-- the light in a slot: blank beyond the count
+unfoldable pub slotLight : List ℕ → Slot → Light
+slotLight f slot = cond (ltb (slot .0) (countOf f)) (lightOf f (numberOf f slot)) blankLight
+
+unfoldable pub lightsOf : List ℕ → List Light
+lightsOf f =
+    slotLight f (record { 0 = 0 })
+    ∷ slotLight f (record { 0 = 1 })
+    ∷ slotLight f (record { 0 = 2 })
+    ∷ slotLight f (record { 0 = 3 })
+    ∷ slotLight f (record { 0 = 4 })
+    ∷ slotLight f (record { 0 = 5 })
+    ∷ slotLight f (record { 0 = 6 })
+    ∷ slotLight f (record { 0 = 7 })
+    ∷ []

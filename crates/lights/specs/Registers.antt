@@ -1,0 +1,54 @@
+-- A register file as the list of its words, the registers that decoding reads by name, and the bits of a word. Definitions only.
+use Prim.Native.Nat.{ℕ, _/_, _%_, _^_}
+use mathlib.Core.Bool.{Bool}
+use mathlib.Core.List.{List}
+use lib.ListN.{getD}
+use lib.Dec.{eqb}
+
+-- bit 0: lighting is on
+abbrev pub regEnable : ℕ
+regEnable = 0x08F
+
+-- the first word of light 0's block; each light has 10 (hexadecimal) words
+abbrev pub regLights : ℕ
+regLights = 0x140
+
+abbrev pub regGlobalAmbient : ℕ
+regGlobalAmbient = 0x1C0
+
+abbrev pub regLightCount : ℕ
+regLightCount = 0x1C2
+
+abbrev pub regConfig0 : ℕ
+regConfig0 = 0x1C3
+
+abbrev pub regConfig1 : ℕ
+regConfig1 = 0x1C4
+
+-- bit 0: lighting is off
+abbrev pub regDisable : ℕ
+regDisable = 0x1C6
+
+abbrev pub regTableAbsolute : ℕ
+regTableAbsolute = 0x1D0
+
+abbrev pub regTableInput : ℕ
+regTableInput = 0x1D1
+
+abbrev pub regTableScale : ℕ
+regTableScale = 0x1D2
+
+abbrev pub regLightSlots : ℕ
+regLightSlots = 0x1D9
+
+-- the word of register r; one that the file is too short to have reads as 0
+abbrev pub registerOf : List ℕ → ℕ → ℕ
+registerOf f r = getD f r 0
+
+-- `width` bits of a word, from bit `from` on
+abbrev pub bitsOf : ℕ → ℕ → ℕ → ℕ
+bitsOf w from width = w / 2 ^ from % 2 ^ width
+
+-- whether bit `at` of a word is set
+abbrev pub flagOf : ℕ → ℕ → Bool
+flagOf w at = eqb (bitsOf w at 1) 1
