@@ -1,0 +1,15 @@
+-- `decoding::off` meets its contract.  Assumes nothing.
+use Rattle.decoding.specs.Decode.{off}
+use borrow.Author.Needs.{needs}
+use Rattle.decoding.proofs.off.Statement.{statement}
+use Rattle.decoding.proofs.off.Tie as tie
+
+blank-lighting-requires : tie.Need-blank-lighting-requires
+blank-lighting-requires c κs = search needs
+
+returns : tie.Need-returns
+unfolding off
+returns c = rw (c .blank-lighting .ensures)
+
+pub off-spec : {M : Type 1} → statement M
+off-spec = tie.close (tie.spec blank-lighting-requires returns)
