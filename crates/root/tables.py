@@ -1,13 +1,13 @@
 #!/usr/bin/env python3
 """Writes the parabolas of `guess`: python3 tables.py > src/parts.rt
 
-`guess` is asked for the root of wide(z), for a z below 2 ^ 24. Part i of 256 holds the z = i * 65536 + d with d below 65536, and there the guess is
+`guess` is asked for the root of wide(z), for a z below 2 ^ 24. Part i of 256 holds the z = i * 65536 + d with d below 65536. There the guess is
 
     (height * 32768 + slope * d + bend * (65535 - d * d / 65536)) / 2097152
 
-each division dropping its remainder. `bend` is the parabola through the root's values at the three Chebyshev points, rounded; `slope` is the line through what is then left
-at two of them, rounded; and `height` is the middle of what is left after that, and a half more, so that the last division rounds. An entry of the table holds the three
-as slope * 2 ^ 43 + height * 2 ^ 13 + bend. Standard error says for what share of all z the guess is wrong.
+where each division drops its remainder. The three numbers are found one after the other: `bend` from the parabola through the root at three Chebyshev points, `slope` from the
+line through what that leaves at two, and `height` from the middle of what is then left, with a half more, so that the last division rounds. Each is rounded before the next
+is found. An entry of the table is slope * 2 ^ 43 + height * 2 ^ 13 + bend. Standard error says for what share of all z the guess is wrong.
 """
 from decimal import Decimal, getcontext
 import math, sys

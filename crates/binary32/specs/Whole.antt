@@ -1,4 +1,4 @@
--- What the helpers of the code ask and give, beside what the papers name. Definitions only.
+-- What the private functions of the code ask and give. Definitions only.
 use Prim.Native.Nat.{ℕ, _+_, _-_, _*_}
 use mathlib.Core.Bool.{Bool, false, not, _&&_, cond}
 use lib.Dec.{leb, ltb}

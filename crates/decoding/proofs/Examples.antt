@@ -1,9 +1,10 @@
--- Document 01's whole case, decoded, and the three ways to no lighting: closed equations that hold by computing. Assumes nothing.
+-- Document 01's whole case, decoded, the scale codes, and the three ways to no lighting. Each is closed, so both sides compute to the same value. Assumes nothing.
 use Prim.Native.Nat.{ℕ}
 use mathlib.Core.Path.{_≡_, refl}
 use mathlib.Core.Bool.{true, false}
 use mathlib.Core.List.{List, [], _∷_}
 use lib.ListN.{set, replicate}
+use lib.IntN.{pos}
 use lib.Ieee.{Float, binary32, add, mul, div, ofInt, ofBits}
 use Rattle.fields.specs.Colour.{colourChannel, colourField, colourOf}
 use Rattle.fields.specs.Fixed.{signed13, fixedOf}
@@ -18,7 +19,7 @@ use Rattle.lighting.specs.declared.OptionalShadow.the-variants.{Unshadowed}
 use Rattle.lights.specs.Supported.{configOf, supportedBy}
 use Rattle.lights.specs.Lights.{countOf, numberOf, lightRegister, lightColour, positionOf, spotOf, distanceOf, spotlitOf, lightOf, slotLight, lightsOf}
 use Rattle.refusals.specs.Lengths.{fileRefusal}
-use Rattle.decoding.specs.Tables.{scaleOf, lookupOf, tableOf, lookupsOf}
+use Rattle.decoding.specs.Tables.{scales, scaleOf, lookupOf, tableOf, lookupsOf}
 use Rattle.decoding.specs.Settings.{bumpOf, shadowOf}
 use Rattle.decoding.specs.Needs.{litLights, inputHalf, inputView, lookupHalf, lookupView, halfInput, viewInput, needsHalf, needsView}
 use Rattle.decoding.specs.Decode.{lightingOn, lightingOf, off, decoded, readIf, readOf}
@@ -77,6 +78,12 @@ whole-decoded : decoded whole ≡ record {
 }
 unfolding decoded lightingOn lightingOf lightsOf slotLight lightOf countOf numberOf lightRegister lightColour positionOf spotOf distanceOf spotlitOf configOf supportedBy lookupsOf tableOf lookupOf scaleOf bumpOf shadowOf needsHalf needsView litLights halfInput viewInput lookupHalf lookupView inputHalf inputView blankLight colourOf colourField colourChannel fixedOf signed13 shortFloat shortWord shortSign shortExponent normalizedOf overOf dotOf rootOf ofBits ofInt add mul div
 whole-decoded = refl
+
+-- ---- the scale codes: 1, 2, 4, 8, 0, 0, 1/4, 1/2
+
+codes : scales ≡ ofInt binary32 (pos 1) ∷ ofInt binary32 (pos 2) ∷ ofInt binary32 (pos 4) ∷ ofInt binary32 (pos 8) ∷ ofInt binary32 (pos 0) ∷ ofInt binary32 (pos 0) ∷ div binary32 (ofInt binary32 (pos 1)) (ofInt binary32 (pos 4)) ∷ div binary32 (ofInt binary32 (pos 1)) (ofInt binary32 (pos 2)) ∷ []
+unfolding ofBits ofInt div
+codes = refl
 
 -- ---- off
 

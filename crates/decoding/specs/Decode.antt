@@ -9,13 +9,13 @@ use Rattle.refusals.specs.Lengths.{fileRefusal}
 use Rattle.lighting.specs.Blank.{blankLighting}
 use Rattle.lighting.specs.declared.Lighting.{Lighting}
 use Rattle.lighting.specs.declared.OptionalLighting.{OptionalLighting}
-use Rattle.decoding.specs.declared.LightingRead.{LightingRead}
-use Rattle.lights.specs.Registers.{regEnable, regDisable, regGlobalAmbient, regConfig0, registerOf, flagOf}
+use Rattle.lights.specs.Registers.{regEnable, regGlobalAmbient, regConfig0, regDisable, registerOf, flagOf}
 use Rattle.lights.specs.Supported.{configOf}
-use Rattle.decoding.specs.Tables.{lookupsOf}
 use Rattle.lights.specs.Lights.{countOf, lightsOf}
-use Rattle.decoding.specs.Needs.{needsHalf, needsView}
+use Rattle.decoding.specs.declared.LightingRead.{LightingRead}
+use Rattle.decoding.specs.Tables.{lookupsOf}
 use Rattle.decoding.specs.Settings.{bumpOf, shadowOf}
+use Rattle.decoding.specs.Needs.{needsHalf, needsView}
 
 -- off when bit 0 of 8F is clear or bit 0 of 1C6 is set
 unfoldable pub lightingOn : List ℕ → Bool
@@ -60,6 +60,7 @@ pub record Answer : Type 0 where
 abbrev pub answerOf : LightingRead → Answer
 answerOf r = record { number = outcomeNumber (r .outcome); lighting = r .decoded }
 
+-- a refused file has no lighting
 unfoldable pub readIf : ℕ → List ℕ → Answer
 readIf zero f = record { number = 0; lighting = decoded f }
 readIf (suc k) f = record { number = suc k; lighting = off }

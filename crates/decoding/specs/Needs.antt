@@ -7,11 +7,12 @@ use lib.ListN.{take}
 use Rattle.lighting.specs.declared.OptionalLookup.{OptionalLookup}
 use Rattle.lighting.specs.declared.OptionalLookup.the-variants.{Missing, Present}
 use Rattle.lighting.specs.declared.Light.{Light}
-use Rattle.decoding.specs.declared.TableLookups.{TableLookups}
 use Rattle.lights.specs.Supported.{configOf}
-use Rattle.decoding.specs.Tables.{lookupsOf}
 use Rattle.lights.specs.Lights.{countOf, lightsOf}
+use Rattle.decoding.specs.declared.TableLookups.{TableLookups}
+use Rattle.decoding.specs.Tables.{lookupsOf}
 
+-- some light of a list has p
 abbrev pub anyLight : (Light → Bool) → List Light → Bool
 anyLight p [] = false
 anyLight p (l ∷ ls) = p l || anyLight p ls

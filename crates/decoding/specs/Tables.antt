@@ -7,9 +7,9 @@ use lib.Ieee.{Float, binary32, ofBits}
 use Rattle.lighting.specs.declared.Lookup.{Lookup}
 use Rattle.lighting.specs.declared.OptionalLookup.{OptionalLookup}
 use Rattle.lighting.specs.declared.OptionalLookup.the-variants.{Missing, Present}
-use Rattle.decoding.specs.declared.TableLookups.{TableLookups}
 use Rattle.lights.specs.Registers.{regConfig1, regTableAbsolute, regTableInput, regTableScale, registerOf, bitsOf, flagOf}
-use Rattle.lights.specs.Supported.{configOf, supportedBy, tableDistribution0, tableDistribution1, tableFresnel, tableReflectRed, tableReflectGreen, tableReflectBlue}
+use Rattle.lights.specs.Supported.{tableDistribution0, tableDistribution1, tableFresnel, tableReflectBlue, tableReflectGreen, tableReflectRed, configOf, supportedBy}
+use Rattle.decoding.specs.declared.TableLookups.{TableLookups}
 
 -- what the scale codes 0 to 7 mean: 1, 2, 4, 8, 0, 0, 0.25, 0.5
 abbrev pub scales : List Float
@@ -27,7 +27,7 @@ scales =
 unfoldable pub scaleOf : ℕ → Float
 scaleOf code = getD scales code (ofBits binary32 0)
 
--- Each table has a field of four bits in the three registers. The bit that is taken for its absolute value is a disable bit, one above the field's first.
+-- Each table has a field of four bits in the three registers: 3 for its input, 3 for its scale, and for its absolute value a disable bit, one above the field's first.
 unfoldable pub lookupOf : List ℕ → ℕ → Lookup
 lookupOf f field =
     record {
@@ -36,7 +36,7 @@ lookupOf f field =
       scale = scaleOf (bitsOf (registerOf f regTableScale) (field * 4) 3);
     }
 
--- a table that is read unless its bit of 1C4 disables it or the configuration has no room for it
+-- a table's lookup: missing where its bit of 1C4 is set or the configuration has no room for the table
 unfoldable pub tableOf : List ℕ → ℕ → ℕ → ℕ → OptionalLookup
 tableOf f table disabled field =
     cond (not (flagOf (registerOf f regConfig1) disabled) && supportedBy (configOf f) table)

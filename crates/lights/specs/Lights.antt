@@ -21,7 +21,7 @@ use Rattle.lights.specs.Supported.{tableSpotlight, configOf, supportedBy
 unfoldable pub countOf : List ℕ → ℕ
 countOf f = bitsOf (registerOf f regLightCount) 0 3 + 1
 
--- which light a slot holds
+-- which light a slot holds: bits 4s to 4s + 2 of 1D9. A slot goes in and a light number comes out, and no definition takes one for the other.
 unfoldable pub numberOf : List ℕ → Slot → LightNumber
 numberOf f slot = record { 0 = bitsOf (registerOf f regLightSlots) (slot .0 * 4) 3 }
 
@@ -29,6 +29,7 @@ numberOf f slot = record { 0 = bitsOf (registerOf f regLightSlots) (slot .0 * 4)
 unfoldable pub lightRegister : List ℕ → LightNumber → ℕ → ℕ
 lightRegister f n offset = registerOf f (regLights + n .0 * 0x10 + offset)
 
+-- the colour at an offset in a light's block
 unfoldable pub lightColour : List ℕ → LightNumber → ℕ → List Float
 lightColour f n offset = colourOf (lightRegister f n offset)
 
@@ -48,16 +49,18 @@ spotOf f n =
     ∷ fixedOf (lightRegister f n 7)
     ∷ []
 
--- none where the bit of 1C4 for the light's number is set
+-- none where bit 24 + n of 1C4 is set, n being the light's number; else the bias and the scale, in the low 20 bits of offsets A and B
 unfoldable pub distanceOf : List ℕ → LightNumber → Distance
 distanceOf f n =
     cond (flagOf (registerOf f regConfig1) (24 + n .0))
     Without
     (Scaled (shortFloat 12 7 (lightRegister f n 0xA)) (shortFloat 12 7 (lightRegister f n 0xB)))
 
+-- bit 8 + n of 1C4 is clear, and the configuration has room for the spotlight tables
 unfoldable pub spotlitOf : List ℕ → LightNumber → Bool
 spotlitOf f n = not (flagOf (registerOf f regConfig1) (8 + n .0)) && supportedBy (configOf f) tableSpotlight
 
+-- light n; its flags are bits 0 to 3 of offset 9
 unfoldable pub lightOf : List ℕ → LightNumber → Light
 lightOf f n =
     record {

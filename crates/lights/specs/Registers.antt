@@ -13,15 +13,19 @@ regEnable = 0x08F
 abbrev pub regLights : ℕ
 regLights = 0x140
 
+-- a colour
 abbrev pub regGlobalAmbient : ℕ
 regGlobalAmbient = 0x1C0
 
+-- bits 0 to 2: the lights on, less one
 abbrev pub regLightCount : ℕ
 regLightCount = 0x1C2
 
+-- configuration, bump, shadow, fresnel and clamp
 abbrev pub regConfig0 : ℕ
 regConfig0 = 0x1C3
 
+-- a disable bit for each table, and for the shadow, spotlight and distance of each light
 abbrev pub regConfig1 : ℕ
 regConfig1 = 0x1C4
 
@@ -29,6 +33,7 @@ regConfig1 = 0x1C4
 abbrev pub regDisable : ℕ
 regDisable = 0x1C6
 
+-- four bits for each table in each of these three
 abbrev pub regTableAbsolute : ℕ
 regTableAbsolute = 0x1D0
 
@@ -38,6 +43,7 @@ regTableInput = 0x1D1
 abbrev pub regTableScale : ℕ
 regTableScale = 0x1D2
 
+-- four bits for each slot: the number of the light that it holds
 abbrev pub regLightSlots : ℕ
 regLightSlots = 0x1D9
 

@@ -14,7 +14,8 @@ use lib.Ieee.Bits.{ofBits-toBits}
 use lib.Ieee.Scale.{finite}
 use lib.Ieee.Positive.{positive}
 use Rattle.root.specs.Root.{rootOf, inUnits}
-use Rattle.root.specs.RootLaws.{root-fits, in-units, few-digits, units-are, units-below}
+use Rattle.root.specs.RootLaws.{root-fits}
+use Rattle.root.specs.UnitLaws.{in-units, few-digits, units-are, units-below}
 use Rattle.root.specs.Steps.{Near, Wide, Placed}
 use Rattle.root.specs.Closest.{Farther, above, below, negative, Closest}
 use Rattle.root.proofs.Squares.{either, sq-mono}

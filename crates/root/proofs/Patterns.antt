@@ -14,7 +14,8 @@ use lib.Ieee.Exact.{HasValue, units-val}
 use lib.Ieee.Bits.{nanBits-above, ofBits-toBits}
 use lib.Ieee.Positive.{positive, positive-of-value}
 use Rattle.root.specs.Root.{inUnits}
-use Rattle.root.specs.RootLaws.{units-fits, in-units}
+use Rattle.root.specs.RootLaws.{units-fits}
+use Rattle.root.specs.UnitLaws.{in-units}
 
 -- ---- what `toBits` writes
 abbrev pub bits : ℕ → ℕ

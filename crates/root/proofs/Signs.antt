@@ -14,7 +14,8 @@ use lib.Ieee.Fits.{up-pos, kept-lt}
 use lib.Ieee.Bits.{is-true, ofBits-toBits}
 use lib.Ieee.Positive.{positive, above, first-pos}
 use Rattle.root.specs.Root.{inUnits, rootUnits, rootOf}
-use Rattle.root.specs.RootLaws.{root-not-below, units-below}
+use Rattle.root.specs.RootLaws.{root-not-below}
+use Rattle.root.specs.UnitLaws.{units-below}
 use Rattle.root.proofs.Squares.{either}
 
 -- ---- the pattern of a value above zero

@@ -1,4 +1,5 @@
 pub mod Root
 pub mod RootLaws
+pub mod UnitLaws
 pub mod Steps
 pub mod Closest

@@ -29,7 +29,7 @@ rootUnits f N =
     let q = isqrt n / 2 ^ k in
     units f false (nearest q (againstMiddle n q k)) k
 
--- The size of a finite value of binary32 in units of the smallest, 2 ^ -149: a whole number, since the format holds no part of that unit (`units-exact` of `RootLaws.antt`).
+-- The size of a finite value of binary32 in units of the smallest, 2 ^ -149: a whole number, since the format holds no part of that unit (`units-exact` of `UnitLaws.antt`).
 abbrev pub inUnits : Float → ℕ
 inUnits nan = 0
 inUnits (inf s) = 0

@@ -16,9 +16,9 @@ fn guess(z: u32) -> u64
     let t = parts::part(z / 65536);
     let d = z % 65536;
     let s = 65535 - d * d / 65536;
-    let slope = t / 8796093022208;
-    let height = t / 8192 % 1073741824;
-    let bend = t % 8192;
+    let slope = t / 0x0800_0000_0000;
+    let height = t / 0x2000 % 0x4000_0000;
+    let bend = t % 0x2000;
     (height * 32768 + slope * (d as u64) + bend * (s as u64)) / 2097152
 }
 
@@ -70,7 +70,7 @@ fn rooted(n: u32) -> u32
     n / 16777216 * 8388608 + (r as u32)
 }
 
-// What the pattern b stands for, as n. A subnormal's digits are moved up until the first of them is the leading one.
+// What the pattern b stands for, as n: y is the exponent's field and 125 more, which keeps it above zero where a subnormal's digits are moved up to the leading place.
 fn placed(b: u32) -> u32
     requires { ⌜ (0 < b) × (b < 0x7f80_0000) ⌝ }
     ensures { λ r. ⌜ Placed b r ⌝ }

@@ -2,8 +2,9 @@
 -- Assumes nothing.
 use mathlib.Core.Path.{_≡_, sym, ap, subst, _∙_}
 use Prim.Native.Nat.{ℕ, _<_}
+use native.Mathlib.Omega.{arith}
 use borrow.Author.Needs.{needs}
-use lib.Dec.{T, lit<}
+use lib.Dec.{T}
 use lib.Ieee.{Float, binary32, minus, add, mul, ofInt, toUnsigned}
 use lib.Ieee.Casts.{toUnsigned-lt}
 use lib.Ieee.Fits.{mul-fits}
@@ -32,7 +33,7 @@ cast-t5 : tie.Need-cast-t5
 cast-t5 c = record { fits = small c }
 
 difference-requires : tie.Need-difference-requires
-difference-requires c κs = (lit< tt, small c)
+difference-requires c κs = (omega (arith, small c), omega (arith, small c))
 
 same-place : (y d : Float) (n k : ℕ) (f : Float) → n ≡ k → add binary32 y d ≡ f → _≡_ {A = Place} (record { entry = n; delta = add binary32 y d }) (record { entry = k; delta = f })
 same-place y d n k f p q = λ i. record { entry = p i; delta = q i }

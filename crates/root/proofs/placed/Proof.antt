@@ -9,7 +9,7 @@ at : (c : tie.Then1) → Moved (c .before .args .b)
 at c = subnormal-moved (c .before .args .b) (omega arith) (c .if1 .taken)
 
 sub-s : tie.Need-sub-s
-sub-s c = at c .some
+sub-s c = omega (arith, at c .some)
 
 sub-result : tie.Need-sub-result
 sub-result c = omega (arith, at c .few)

@@ -34,10 +34,10 @@ add-r : tie.Need-add-r Inv-loop μ-loop Inv-loop2 μ-loop2
 add-r c = omega arith
 
 loop-less : tie.Need-loop-less Inv-loop μ-loop Inv-loop2 μ-loop2
-loop-less c = omega (arith, small-root (c .before .before .args .w) (c .before .loop .r) (omega arith) (c .loop-test .taken))
+loop-less c = omega (arith, small-root (c .before .before .args .w) (c .before .loop .r) (omega arith) (omega arith))
 
 loop-again : tie.Need-loop-again Inv-loop μ-loop Inv-loop2 μ-loop2
-loop-again c = omega (arith, small-root (c .before .before .args .w) (c .before .loop .r) (omega arith) (c .loop-test .taken))
+loop-again c = omega (arith, small-root (c .before .before .args .w) (c .before .loop .r) (omega arith) (omega arith))
 
 loop2-holds : tie.Need-loop2-holds Inv-loop μ-loop Inv-loop2 μ-loop2
 loop2-holds c = (c .loop-test .left, c .before .loop .inv)
@@ -49,13 +49,13 @@ mul-loop2 : tie.Need-mul-loop2 Inv-loop μ-loop Inv-loop2 μ-loop2
 mul-loop2 c = omega (arith, square (c .loop2 .r) (c .loop2 .inv .1))
 
 sub-r : tie.Need-sub-r Inv-loop μ-loop Inv-loop2 μ-loop2
-sub-r c = step-down (c .before .before .before .before .args .w) (c .before .loop2 .r) (omega arith) (c .loop2-test .taken) .0
+sub-r c = step-down (c .before .before .before .before .args .w) (c .before .loop2 .r) (omega arith) (omega arith) .0
 
 loop2-less : tie.Need-loop2-less Inv-loop μ-loop Inv-loop2 μ-loop2
-loop2-less c = omega (arith, step-down (c .before .before .before .before .args .w) (c .before .loop2 .r) (omega arith) (c .loop2-test .taken) .0)
+loop2-less c = omega (arith, step-down (c .before .before .before .before .args .w) (c .before .loop2 .r) (omega arith) (omega arith) .0)
 
 loop2-again : tie.Need-loop2-again Inv-loop μ-loop Inv-loop2 μ-loop2
-loop2-again c = (step-down (c .before .before .before .before .args .w) (c .before .loop2 .r) (omega arith) (c .loop2-test .taken) .1, omega arith)
+loop2-again c = (step-down (c .before .before .before .before .args .w) (c .before .loop2 .r) (omega arith) (omega arith) .1, omega arith)
 
 returns : tie.Need-returns Inv-loop μ-loop Inv-loop2 μ-loop2
 returns c = record { above = c .loop2-test .left; below = c .before .loop2 .inv .0 }
