@@ -1,0 +1,15 @@
+pub mod Words
+pub mod Formed
+pub mod Reading
+pub mod Answers
+pub mod Claims
+pub mod TestLaws
+pub mod FormedLaws
+pub mod FlagLaws
+pub mod ListLaws
+pub mod PackedLaws
+pub mod WordLaws
+pub mod SmallLaws
+pub mod ReadLaws
+pub mod AcceptedLaws
+pub mod AnswerLaws

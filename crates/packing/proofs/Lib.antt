@@ -1,0 +1,4 @@
+mod Cases
+mod Rows
+mod Parts
+mod Answers

@@ -1,0 +1,28 @@
+-- Words put into a block, and the parts of a head and of a light that are put by one function. Definitions only.
+use Prim.Native.Nat.{ℕ}
+use mathlib.Core.List.{List, _++_}
+use lib.Seq.{sets}
+use Rattle.lighting.specs.declared.OptionalLookup.the-variants.{Present}
+use Rattle.lighting.specs.declared.Light.{Light}
+use Rattle.lighting.specs.declared.Lighting.{Lighting}
+use Rattle.block.specs.Words.{lookupWords, vectorWords}
+
+-- the block with the words ws from i on
+unfoldable pub put : List ℕ → ℕ → List ℕ → List ℕ
+put b i ws = sets b i ws
+
+unfoldable pub lookupsWords : Lighting → List ℕ
+lookupsWords l =
+    lookupWords (l .distribution0)
+    ++ lookupWords (l .distribution1)
+    ++ lookupWords (l .fresnel)
+    ++ lookupWords (l .«reflect_red»)
+    ++ lookupWords (l .«reflect_green»)
+    ++ lookupWords (l .«reflect_blue»)
+    ++ lookupWords (Present (l .spotlight))
+
+unfoldable pub coloursWords : Light → List ℕ
+coloursWords l = vectorWords (l .specular0) ++ vectorWords (l .specular1) ++ vectorWords (l .diffuse) ++ vectorWords (l .ambient)
+
+unfoldable pub placesWords : Light → List ℕ
+placesWords l = vectorWords (l .position) ++ vectorWords (l .direction) ++ vectorWords (l .spot)
