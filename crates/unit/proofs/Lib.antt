@@ -1,0 +1,3 @@
+pub mod Kept
+pub mod Zeros
+pub mod Handing
