@@ -1,0 +1,19 @@
+-- `shade_light::half` meets its contract: each operation and call is the definition's, in its order. Assumes nothing.
+use Rattle.shade_light.specs.Toward.{halfOf}
+use borrow.Author.Needs.{needs}
+use Rattle.shade_light.proofs.half.Statement.{statement}
+use Rattle.shade_light.proofs.half.Tie as tie
+
+plus-requires : tie.Need-plus-requires
+plus-requires c κs = search needs
+
+returns : tie.Need-returns
+unfolding halfOf
+returns c = simp (c .plus .ensures, c .before .if1 .taken)
+
+returns-2 : tie.Need-returns-2
+unfolding halfOf
+returns-2 c = simp (c .if1 .left)
+
+pub half-spec : {M : Type 1} → statement M
+half-spec = tie.close (tie.spec plus-requires returns returns-2)

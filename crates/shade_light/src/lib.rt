@@ -1,0 +1,146 @@
+// What one light makes of a fragment before its tables are read: its vectors, the lookups' inputs,
+// facing, highlights and the geometric factor.
+ghost use mathlib.Core.Path.{_≡_};
+ghost use mathlib.Core.Bool.{_||_};
+ghost use Rattle.shade_light.specs.Toward.{lightVector, halfOf, towardOf, offsetOf, awayOf, alongTangent, inputsOf, facingOf, highlightsOf, factorBy, factorOf};
+use lighting::Light;
+use shade_surface::Frame;
+
+// The light's unit vector, and the half vector between it and the view.
+pub struct Toward {
+    pub light_vector: [f32; 3],
+    pub half: [f32; 3],
+}
+
+fn light_vector(light: Light, view: [f32; 3]) -> [f32; 3]
+    ensures { λ r. ⌜ r ≡ lightVector light view ⌝ }
+{
+    let direction = light.direction;
+    let position = light.position;
+    if light.directional {
+        direction
+    } else {
+        vectors::normalized(vectors::plus(position, view))
+    }
+}
+
+fn half(needed: bool, view: [f32; 3], light: [f32; 3]) -> [f32; 3]
+    ensures { λ r. ⌜ r ≡ halfOf needed view light ⌝ }
+{
+    if needed {
+        vectors::plus(view, light)
+    } else {
+        [0.0, 0.0, 0.0]
+    }
+}
+
+pub fn toward_light(light: Light, frame: Frame, needed: bool) -> Toward
+    ensures { λ r. ⌜ r ≡ towardOf light frame needed ⌝ }
+{
+    let view = frame.view;
+    let norm_view = frame.norm_view;
+    let light_vector = light_vector(light, view);
+    let half = half(needed, norm_view, light_vector);
+    Toward { light_vector, half }
+}
+
+fn offset(view: [f32; 3], position: [f32; 3]) -> [f32; 3]
+    ensures { λ r. ⌜ r ≡ offsetOf view position ⌝ }
+{
+    [
+        -view[0] - position[0],
+        -view[1] - position[1],
+        -view[2] - position[2],
+    ]
+}
+
+pub fn away(view: [f32; 3], position: [f32; 3]) -> f32
+    ensures { λ r. ⌜ r ≡ awayOf view position ⌝ }
+{
+    let offset = offset(view, position);
+    root::root(vectors::dot(offset, offset))
+}
+
+fn along_tangent(config: u32, normal: [f32; 3], tangent: [f32; 3], half: [f32; 3]) -> f32
+    ensures { λ r. ⌜ r ≡ alongTangent config normal tangent half ⌝ }
+{
+    if config == 8 {
+        let along = vectors::times(normal, vectors::dot(normal, half));
+        vectors::dot(vectors::minus(half, along), tangent)
+    } else {
+        0.0
+    }
+}
+
+pub fn inputs_of(
+    config: u32,
+    frame: Frame,
+    toward: Toward,
+    needed: bool,
+    spot: [f32; 3],
+) -> [f32; 8]
+    ensures { λ r. ⌜ r ≡ inputsOf config frame toward needed spot ⌝ }
+{
+    let normal = frame.normal;
+    let tangent = frame.tangent;
+    let norm_view = frame.norm_view;
+    let light_vector = toward.light_vector;
+    let half = toward.half;
+    let half_unit = shade_surface::unit_if(needed, half);
+    [
+        vectors::dot(normal, half_unit),
+        vectors::dot(norm_view, half_unit),
+        vectors::dot(normal, norm_view),
+        vectors::dot(light_vector, normal),
+        vectors::dot(light_vector, spot),
+        along_tangent(config, normal, tangent, half_unit),
+        0.0,
+        0.0,
+    ]
+}
+
+pub fn either(a: bool, b: bool) -> bool
+    ensures { λ r. ⌜ r ≡ (a || b) ⌝ }
+{
+    if a { true } else { b }
+}
+
+pub fn facing_of(both: bool, x: f32) -> f32
+    ensures { λ r. ⌜ r ≡ facingOf both x ⌝ }
+{
+    if both {
+        binary32::magnitude(x)
+    } else {
+        binary32::positive(x)
+    }
+}
+
+pub fn highlights_of(clamp: bool, facing: f32) -> f32
+    ensures { λ r. ⌜ r ≡ highlightsOf clamp facing ⌝ }
+{
+    if clamp {
+        if facing == 0.0 { 0.0 } else { 1.0 }
+    } else {
+        1.0
+    }
+}
+
+fn factor_by(facing: f32, length: f32) -> f32
+    ensures { λ r. ⌜ r ≡ factorBy facing length ⌝ }
+{
+    if length == 0.0 {
+        0.0
+    } else {
+        binary32::at_most_one(facing / length)
+    }
+}
+
+pub fn factor_of(light: Light, half: [f32; 3], facing: f32) -> f32
+    ensures { λ r. ⌜ r ≡ factorOf light half facing ⌝ }
+{
+    if either(light.geometric0, light.geometric1) {
+        factor_by(facing, vectors::dot(half, half))
+    } else {
+        1.0
+    }
+}

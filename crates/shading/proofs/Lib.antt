@@ -1,0 +1,4 @@
+-- Facts that the functions' proofs share, and closed runs of the definition.
+mod Answers
+mod Eight
+mod Examples

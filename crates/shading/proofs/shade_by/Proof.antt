@@ -1,0 +1,51 @@
+-- `shading::shade_by` meets its contract: each operation and call is the definition's, in its order. Assumes nothing.
+use Rattle.shading.specs.Shade.{shadeBy, sumsOf}
+use Prim.Native.Nat.{_≤_}
+use native.Mathlib.Omega.{arith}
+use mathlib.Core.Path.{_≡_}
+use mathlib.Core.Bool.{true}
+use Rattle.lighting.specs.declared.Lighting.{Lighting}
+use Rattle.block.specs.Words.{lightAt}
+use Rattle.block.specs.Answers.{inRange}
+use Rattle.block.specs.PackedLaws.{range-count, range-number}
+use Rattle.shading.specs.Numbered.{Numbered}
+use borrow.Author.Needs.{needs}
+use Rattle.shading.proofs.shade_by.Statement.{statement}
+use Rattle.shading.proofs.shade_by.Tie as tie
+
+-- an accepted count, and numbers of at most 7
+numbered : (l : Lighting) → inRange l ≡ true → Numbered (l .lights) (l .«light_count»)
+unfolding lightAt
+numbered l h k n = let m : lightAt l k .number .0 ≤ 7 = range-number l h k n in omega arith
+
+lookups-of-requires : tie.Need-lookups-of-requires
+lookups-of-requires c κs = search needs
+
+settings-of-requires : tie.Need-settings-of-requires
+settings-of-requires c κs = search needs
+
+sum-lights-requires : tie.Need-sum-lights-requires
+sum-lights-requires c κs =
+    let s = c .before .before .before .before .before in
+    (range-count (s .args .l) (s .pre), numbered (s .args .l) (s .pre))
+
+alpha-of-requires : tie.Need-alpha-of-requires
+alpha-of-requires c κs = search needs
+
+finish-requires : tie.Need-finish-requires
+finish-requires c κs = search needs
+
+returns : tie.Need-returns
+unfolding shadeBy sumsOf
+returns c = simp (c .finish .ensures, c .before .alpha-of .ensures, c .before .before .sum-lights .ensures, c .before .before .before .settings-of .ensures, c .before .before .before .before .lookups-of .ensures)
+
+pub shade-by-spec : {M : Type 1} → statement M
+shade-by-spec =
+    tie.close
+    (tie.spec
+    lookups-of-requires
+    settings-of-requires
+    sum-lights-requires
+    alpha-of-requires
+    finish-requires
+    returns)

@@ -1,0 +1,66 @@
+-- `shading::sum_lights` meets its contract. Before slot i the sums are the definition's after i slots, and `step` adds the slot's light.
+-- Assumes nothing.
+use Prim.Native.Nat.{_≤_, _-_}
+use mathlib.Core.Path.{_≡_, refl}
+use native.Mathlib.Omega.{arith}
+use native.Mathlib.Numerals.{add-one}
+use borrow.Author.Needs.{needs}
+use Rattle.shading.specs.Shade.{sumsBy}
+use Rattle.shading.specs.Numbered.{Numbered}
+use Rattle.shading.proofs.sum_lights.Statement.{statement}
+use Rattle.shading.proofs.sum_lights.Tie as tie
+
+abbrev Inv-loop : tie.InvT-loop
+Inv-loop tables lookups frame settings count lights sums₀ i₀ sums i =
+    (i ≤ count) × (count ≤ 8) × (sums ≡ sumsBy tables lookups frame settings lights count i)
+
+abbrev μ-loop : tie.MeasureT-loop
+μ-loop tables lookups frame settings count lights sums₀ i₀ sums i = count - i
+
+loop-holds : tie.Need-loop-holds Inv-loop μ-loop
+unfolding sumsBy
+loop-holds c = (search needs, c .before .pre .0, refl)
+
+mul-light : tie.Need-mul-light Inv-loop μ-loop
+mul-light c = search needs
+
+array-copy-out-light : tie.Need-array-copy-out-light Inv-loop μ-loop
+array-copy-out-light c = search needs
+
+is-last-requires : tie.Need-is-last-requires Inv-loop μ-loop
+is-last-requires c κs = omega arith
+
+step-requires : tie.Need-step-requires Inv-loop μ-loop
+step-requires c κs = c .before .before .before .before .before .pre .1 (c .before .before .before .loop .i) (omega arith)
+
+add-i : tie.Need-add-i Inv-loop μ-loop
+add-i c = search needs
+
+loop-less : tie.Need-loop-less Inv-loop μ-loop
+loop-less c = search needs
+
+loop-again : tie.Need-loop-again Inv-loop μ-loop
+unfolding sumsBy
+loop-again c =
+    (omega arith, c .before .before .before .before .loop .inv .1, simp (c .step .ensures, c .before .is-last .ensures, c .before .before .before .before .loop .inv .2, add-one))
+
+returns : tie.Need-returns Inv-loop μ-loop
+returns c =
+    let e : c .before .loop .i ≡ c .before .before .before .args .count = omega arith in
+    rw (c .before .loop .inv .2, e)
+
+pub sum-lights-spec : {M : Type 1} → statement M
+sum-lights-spec =
+    tie.close
+    (tie.spec
+    Inv-loop
+    μ-loop
+    loop-holds
+    mul-light
+    array-copy-out-light
+    is-last-requires
+    step-requires
+    add-i
+    loop-less
+    loop-again
+    returns)

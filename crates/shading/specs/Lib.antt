@@ -1,0 +1,3 @@
+pub mod Shade
+pub mod Numbered
+pub mod Answers
