@@ -1,0 +1,1 @@
+// Block shading: its definition is in specs/.

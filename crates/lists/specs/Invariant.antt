@@ -1,0 +1,44 @@
+-- What holds of unit, copy and plain machine after every list of calls, and more after an accepted hand-over. Definitions only.
+use Prim.Native.Nat.{ℕ, _+_, _≤_}
+use mathlib.Core.Path.{_≡_}
+use mathlib.Core.List.{List}
+use mathlib.Core.Logic.{_⊎_}
+use mathlib.Core.Bool.{true}
+use lib.ListN.{length, take}
+use Rattle.unit.specs.declared.Cache.{Cache}
+use Rattle.decoding.specs.RegistersRead.{keptWords}
+use Rattle.decoding.specs.Decode.{decoded}
+use Rattle.block.specs.Answers.{packedReading}
+use Rattle.lists.specs.States.{UnitState, CopyState, State}
+use Rattle.lists.specs.Plain.{Machine}
+
+-- the unit's tables are as old as before, or its generation rose
+abbrev pub Rises : UnitState → UnitState → Type 0
+Rises u w =
+    ((w .generation ≡ u .generation) × (w .tables ≡ u .tables)) ⊎ (w .generation ≡ u .generation + 1)
+
+-- a cache is empty, or holds the lighting of every register file with its kept words
+abbrev pub Sound : Cache → Type 0
+Sound c = c .filled ≡ true → (f : List ℕ) → keptWords f ≡ c .kept → decoded f ≡ c .decoded
+
+-- the unit, whose file has n words, holds what the machine holds
+pub record Matches (n : ℕ) (u : UnitState) (m : Machine) : Type 0 where
+  pub fileLength : length (u .file) ≡ n
+  pub registers : take 474 (u .file) ≡ m .registers
+  pub entries : u .tables ≡ m .entries
+  pub tablesLength : length (u .tables) ≡ 12288
+  pub sound : Sound (u .cache)
+
+-- after k calls
+pub record Inv (n k : ℕ) (s : State) (m : Machine) : Type 0 where
+  pub unit : Matches n (s .unit) m
+  pub blockLength : length (s .copy .block) ≡ 328
+  pub copyLength : length (s .copy .tables) ≡ 12288
+  pub behind : s .copy .generation ≤ s .unit .generation
+  pub count : s .unit .generation ≤ k
+  pub agree : s .unit .generation ≡ s .copy .generation → s .unit .tables ≡ s .copy .tables
+
+-- the copy has the block of the machine's registers and the machine's entries
+pub record Shows (c : CopyState) (m : Machine) : Type 0 where
+  pub block : c .block ≡ packedReading (decoded (m .registers))
+  pub tables : c .tables ≡ m .entries

@@ -1,0 +1,17 @@
+pub mod Parts
+pub mod States
+pub mod Calls
+pub mod Plain
+pub mod Claim
+pub mod Ours
+pub mod LentLaws
+pub mod Invariant
+pub mod InvariantLaws
+pub mod WriteCallLaws
+pub mod RestoreCallLaws
+pub mod ReadCallLaws
+pub mod HandOverCallLaws
+pub mod ClaimLaws
+pub mod Wrong
+pub mod Demand3
+pub mod Demand3Laws

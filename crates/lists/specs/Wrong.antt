@@ -1,0 +1,65 @@
+-- Wrong implementations, each ours but for one call: the four of which document 01 says that they fail by demand 3. Definitions only.
+use Prim.Native.Nat.{ℕ}
+use mathlib.Core.List.{List}
+use mathlib.Core.Bool.{cond}
+use lib.Dec.{eqb}
+use Rattle.tables.specs.Write.{write, wrote}
+use Rattle.tables.specs.Restore.{restore}
+use Rattle.unit.specs.declared.Cache.{Cache}
+use Rattle.unit.specs.CachedRead.{cachedRead}
+use Rattle.unit.specs.HandOver.{Handed, handed, handOver}
+use Rattle.block_shading.specs.BlockShading.{shaded}
+use Rattle.lists.specs.Parts.{Parts}
+use Rattle.lists.specs.States.{Implementation}
+
+-- "A unit that refuses every write"
+abbrev pub refusesWrites : Parts → Implementation
+refusesWrites P =
+    record {
+      write = λ f t g r v. wrote 3 f t g;
+      restore = restore;
+      cachedRead = cachedRead;
+      handOver = handOver;
+      blockShading = P .blockShading;
+    }
+
+-- "a shader painting one colour"
+abbrev pub paintsOne : List ℕ → Implementation
+paintsOne colours =
+    record {
+      write = write;
+      restore = restore;
+      cachedRead = cachedRead;
+      handOver = handOver;
+      blockShading = λ b t q a. shaded 0 colours;
+    }
+
+-- "a hand-over that copies nothing": it reads and answers as ours
+unfoldable pub copyingNothing : List ℕ → List ℕ → ℕ → Cache → List ℕ → List ℕ → ℕ → Handed
+copyingNothing f t g c b ct cg =
+    let w = handOver f t g c b ct cg in
+    handed (w .number) (w .cache) b ct cg
+
+abbrev pub copiesNothing : Parts → Implementation
+copiesNothing P =
+    record {
+      write = write;
+      restore = restore;
+      cachedRead = cachedRead;
+      handOver = copyingNothing;
+      blockShading = P .blockShading;
+    }
+
+-- "one that copies only the first time": while the copy's generation is 0
+unfoldable pub copyingOnce : List ℕ → List ℕ → ℕ → Cache → List ℕ → List ℕ → ℕ → Handed
+copyingOnce f t g c b ct cg = cond (eqb cg 0) (handOver f t g c b ct cg) (copyingNothing f t g c b ct cg)
+
+abbrev pub copiesOnce : Parts → Implementation
+copiesOnce P =
+    record {
+      write = write;
+      restore = restore;
+      cachedRead = cachedRead;
+      handOver = copyingOnce;
+      blockShading = P .blockShading;
+    }
