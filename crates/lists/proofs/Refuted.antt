@@ -25,6 +25,8 @@ use Rattle.lists.specs.Calls.Call.{Write, Restore, HandOver}
 use Rattle.lists.specs.Calls.Lent.{own}
 use Rattle.lists.specs.Plain.{plain, plainRun, plainStep, zeros, accepts, does, plainWrite}
 use Rattle.lists.specs.Claim.{Demand3, EndsHandedOver, HandsOver}
+use Rattle.lists.specs.Demand3.{parts}
+use Rattle.lists.specs.Demand3Laws.{laws}
 use Rattle.lists.specs.Wrong.{refusesWrites, paintsOne, copyingNothing, copiesNothing, copyingOnce, copiesOnce}
 
 decoded-on : (f : List ℕ) → decoded f .on ≡ lightingOn f
@@ -154,3 +156,16 @@ paints-refuted P colours d =
     let after = d 474 (lit≤ tt) (handOver ∷ []) (lit< tt) in
     let e = after .shades refl fragment answer refl refl in
     omega (arith, ap (λ (s : Shaded). s .number) e ∙ shade-off P (replicate 474 0) (replicate 12288 0) fragment answer refl)
+
+-- ---- with the real block shading: the four that document 01 names
+refusing-every-write-fails : Demand3 parts (refusesWrites parts) → ⊥
+refusing-every-write-fails = refuses-refuted parts laws
+
+painting-one-colour-fails : (colours : List ℕ) → Demand3 parts (paintsOne colours) → ⊥
+painting-one-colour-fails = paints-refuted parts
+
+copying-nothing-fails : Demand3 parts (copiesNothing parts) → ⊥
+copying-nothing-fails = nothing-refuted parts laws
+
+copying-once-fails : Demand3 parts (copiesOnce parts) → ⊥
+copying-once-fails = once-refuted parts laws

@@ -52,7 +52,7 @@ shades : (r e q a : List ℕ) → length e ≡ 12288 → length q ≡ 23 → len
 unfolding blockShading blockShadingIf shadedBy shadeFrom
 shades r e q a he hq ha = rw (passes r e q a he hq ha, decoded-reads r) refl
 
-laws : Laws parts
+pub laws : Laws parts
 laws = record { shades = shades }
 
 pub every-list-shades-alike : EveryListShadesAlike
