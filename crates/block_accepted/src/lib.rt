@@ -11,7 +11,7 @@ ghost use Prim.Native.Nat.{_≤_};
 ghost use Rattle.block.specs.Answers.{bumpUnit, shadowUnit, numbersFit, inRange, accepted};
 ghost use Rattle.block.specs.Claims.{Single, Vector, DistanceHeld, LookupHeld, LightHeld, LightsHeld, Held, lookupFine, optionalLookupFine};
 
-pub fn unit_of_bump(bump: Bump) -> usize
+fn unit_of_bump(bump: Bump) -> usize
     ensures { λ r. ⌜ r ≡ bumpUnit bump ⌝ }
 {
     match bump {
@@ -21,7 +21,7 @@ pub fn unit_of_bump(bump: Bump) -> usize
     }
 }
 
-pub fn unit_of_shadow(shadow: OptionalShadow) -> usize
+fn unit_of_shadow(shadow: OptionalShadow) -> usize
     ensures { λ r. ⌜ r ≡ shadowUnit shadow ⌝ }
 {
     match shadow {

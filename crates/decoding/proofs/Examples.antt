@@ -81,7 +81,16 @@ whole-decoded = refl
 
 -- ---- the scale codes: 1, 2, 4, 8, 0, 0, 1/4, 1/2
 
-codes : scales ≡ ofInt binary32 (pos 1) ∷ ofInt binary32 (pos 2) ∷ ofInt binary32 (pos 4) ∷ ofInt binary32 (pos 8) ∷ ofInt binary32 (pos 0) ∷ ofInt binary32 (pos 0) ∷ div binary32 (ofInt binary32 (pos 1)) (ofInt binary32 (pos 4)) ∷ div binary32 (ofInt binary32 (pos 1)) (ofInt binary32 (pos 2)) ∷ []
+codes : scales ≡
+    ofInt binary32 (pos 1)
+    ∷ ofInt binary32 (pos 2)
+    ∷ ofInt binary32 (pos 4)
+    ∷ ofInt binary32 (pos 8)
+    ∷ ofInt binary32 (pos 0)
+    ∷ ofInt binary32 (pos 0)
+    ∷ div binary32 (ofInt binary32 (pos 1)) (ofInt binary32 (pos 4))
+    ∷ div binary32 (ofInt binary32 (pos 1)) (ofInt binary32 (pos 2))
+    ∷ []
 unfolding ofBits ofInt div
 codes = refl
 

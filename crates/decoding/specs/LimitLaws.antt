@@ -24,7 +24,16 @@ use Rattle.decoding.specs.Decode.{lightingOf}
 use Rattle.decoding.specs.Claims.{LookupLimits, OptionalLookupLimits, BumpLimits, ShadowLimits, LightLimits, Limits}
 
 -- what holds of 1, 2, 4, 8, 0, 0.25 and 0.5 holds of every code's scale
-pub scale-each : (P : Float → Type 0) → P (ofBits binary32 0x3F800000) → P (ofBits binary32 0x40000000) → P (ofBits binary32 0x40800000) → P (ofBits binary32 0x41000000) → P (ofBits binary32 0) → P (ofBits binary32 0x3E800000) → P (ofBits binary32 0x3F000000) → (code : ℕ) → P (scaleOf code)
+pub scale-each : (P : Float → Type 0)
+    → P (ofBits binary32 0x3F800000)
+    → P (ofBits binary32 0x40000000)
+    → P (ofBits binary32 0x40800000)
+    → P (ofBits binary32 0x41000000)
+    → P (ofBits binary32 0)
+    → P (ofBits binary32 0x3E800000)
+    → P (ofBits binary32 0x3F000000)
+    → (code : ℕ)
+    → P (scaleOf code)
 unfolding scaleOf
 scale-each P one two four eight none quarter half zero = one
 scale-each P one two four eight none quarter half (suc zero) = two
@@ -38,7 +47,14 @@ scale-each P one two four eight none quarter half (suc (suc (suc (suc (suc (suc 
 
 pub scale-fits : (code : ℕ) → T (fits binary32 (scaleOf code))
 scale-fits =
-    scale-each (λ (x : Float). T (fits binary32 x)) (ofBits-fits binary32 _) (ofBits-fits binary32 _) (ofBits-fits binary32 _) (ofBits-fits binary32 _) (ofBits-fits binary32 _) (ofBits-fits binary32 _) (ofBits-fits binary32 _)
+    scale-each (λ (x : Float). T (fits binary32 x))
+    (ofBits-fits binary32 _)
+    (ofBits-fits binary32 _)
+    (ofBits-fits binary32 _)
+    (ofBits-fits binary32 _)
+    (ofBits-fits binary32 _)
+    (ofBits-fits binary32 _)
+    (ofBits-fits binary32 _)
 
 pub lookup-limits : (f : List ℕ) (field : ℕ) → LookupLimits (lookupOf f field)
 unfolding lookupOf

@@ -1,14 +1,13 @@
 -- What one light makes of a fragment before its tables are read, in the order of `Lighting::shade`: its vectors, the lookups' inputs, facing, highlights and the geometric factor. Definitions only.
 use Prim.Native.Nat.{ℕ}
 use mathlib.Core.List.{List, [], _∷_}
-use mathlib.Core.Bool.{Bool, true, false, cond, _&&_, _||_}
+use mathlib.Core.Bool.{Bool, cond, _&&_, _||_}
 use lib.Dec.{eqb}
-use lib.ListN.{getD}
 use lib.Ieee.{Float, eq, neg}
 use Rattle.root.specs.Root.{rootOf}
 use Rattle.binary32.specs.Numbers.{float0, float1}
 use Rattle.binary32.specs.Order.{magnitudeOf, maxOf, minOf}
-use Rattle.vectors.specs.Vectors.{at, _⊕_, _⊖_, _⊗_, _⊘_, plusOf, minusOf, timesOf, dotOf, normalizedOf}
+use Rattle.vectors.specs.Vectors.{at, _⊖_, _⊘_, plusOf, minusOf, timesOf, dotOf, normalizedOf}
 use Rattle.lighting.specs.declared.Light.{Light}
 use Rattle.shade_surface.specs.declared.Frame.{Frame}
 use Rattle.shade_surface.specs.Surface.{zero3, unitIf}

@@ -1,7 +1,7 @@
 -- Reading the tables in three steps: where each value is read, what the entry there gives, and the values. The law that they give the values of `Lookups` is in ReadingsLaws. Definitions only.
 use Prim.Native.Nat.{ℕ, _+_, _%_}
 use mathlib.Core.List.{List}
-use mathlib.Core.Bool.{Bool, true, false, cond, _||_}
+use mathlib.Core.Bool.{Bool, cond, _||_}
 use lib.Ieee.{Float}
 use Rattle.binary32.specs.Numbers.{float1}
 use Rattle.binary32.specs.declared.Place.{Place}

@@ -1,8 +1,8 @@
 -- Reading the tables in steps gives the values of `Lookups`: each step goes by the same cases. A light that reads no table but its distance table has 1 for every other value.
 -- Assumes nothing.
-use Prim.Native.Nat.{ℕ, _+_, _%_, _<_}
+use Prim.Native.Nat.{ℕ, _+_, _<_}
 use native.Mathlib.Omega.{arith}
-use mathlib.Core.Path.{_≡_, refl, sym, ap, _∙_}
+use mathlib.Core.Path.{_≡_, refl}
 use mathlib.Core.List.{List}
 use mathlib.Core.Bool.{Bool, true, false, cond, _||_, true≢false}
 use lib.Ieee.{Float}
@@ -15,10 +15,9 @@ use Rattle.lighting.specs.declared.Distance.{Distance}
 use Rattle.lighting.specs.declared.Distance.the-variants.{Without, Scaled}
 use Rattle.shade_surface.specs.declared.Frame.{Frame}
 use Rattle.shade_light.specs.declared.Toward.{Toward}
-use Rattle.shade_light.specs.Toward.{awayOf, inputsOf}
+use Rattle.shade_light.specs.Toward.{awayOf}
 use Rattle.shade_lookups.specs.declared.Lookups.{Lookups}
-use Rattle.shade_lookups.specs.declared.Values.{Values}
-use Rattle.shade_lookups.specs.declared.Reading.the-variants.{Unread, At}
+use Rattle.shade_lookups.specs.declared.Reading.the-variants.{Unread}
 use Rattle.vectors.specs.Vectors.{_⊗_}
 use Rattle.shade_lookups.specs.Lookups.{fresnelTable, present, valueOf, valueIf, spotOf, fresnelOf, distanceBy, distanceOf, valuesBy, valuesOf}
 use Rattle.shade_lookups.specs.Readings.{readsTables, tableFor, readingBy, readingIf, spotReading, fresnelReading, distanceReadingBy, distanceReading, readingsBy, readingsOf, readOf, readAll, scaledIf, spotScaled, fresnelScaled, valuesFrom, unread}

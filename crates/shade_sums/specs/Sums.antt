@@ -2,9 +2,9 @@
 -- A sum is red, green, blue and alpha.
 use Prim.Native.Nat.{ℕ}
 use mathlib.Core.List.{List, [], _∷_}
-use mathlib.Core.Bool.{Bool, true, false, cond, _&&_}
+use mathlib.Core.Bool.{Bool, false, cond, _&&_}
 use lib.Ieee.{Float}
-use Rattle.binary32.specs.Numbers.{float0, float1}
+use Rattle.binary32.specs.Numbers.{float1}
 use Rattle.binary32.specs.Quantize.{quantizedOf}
 use Rattle.vectors.specs.Vectors.{at, _⊕_, _⊗_, timesOf, dotOf}
 use Rattle.lighting.specs.declared.Light.{Light}

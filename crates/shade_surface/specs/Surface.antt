@@ -2,7 +2,7 @@
 -- A vector, a quaternion and a texel are each the list of their floats.
 use Prim.Native.Nat.{ℕ}
 use mathlib.Core.List.{List, [], _∷_}
-use mathlib.Core.Bool.{Bool, true, false, cond}
+use mathlib.Core.Bool.{Bool, cond}
 use lib.Dec.{eqb}
 use lib.Ieee.{Float, lt}
 use Rattle.root.specs.Root.{rootOf}

@@ -1,6 +1,7 @@
 // Shading before its lights: the quaternion, the shadow texel, the surface's normal and tangent, and
 // the view.
 ghost use mathlib.Core.Path.{_≡_};
+ghost use Rattle.block.specs.Answers.{bumpUnit, shadowUnit};
 ghost use Rattle.shade_surface.specs.Surface.{lengthOf, unitQuaternion, inverted as invertedOf, shadowOf, perturbed as perturbedOf, rebuiltZ, rebuilt as rebuiltOf, surfaceNormal, surfaceTangent, tangentOf, unitIf, frameOf};
 use lighting::Bump;
 use lighting::OptionalShadow;
@@ -41,6 +42,16 @@ fn inverted(invert: bool, t: [f32; 4]) -> [f32; 4]
     }
 }
 
+// 0 where there is none.
+pub fn shadow_unit(shadow: OptionalShadow) -> usize
+    ensures { λ r. ⌜ r ≡ shadowUnit shadow ⌝ }
+{
+    match shadow {
+        OptionalShadow::Unshadowed => 0,
+        OptionalShadow::Shadowed(s) => s.unit,
+    }
+}
+
 // From the texel of the shadow's unit.
 pub fn shadow_texel(shadow: OptionalShadow, texel: [f32; 4]) -> [f32; 4]
     ensures { λ r. ⌜ r ≡ shadowOf shadow texel ⌝ }
@@ -48,6 +59,17 @@ pub fn shadow_texel(shadow: OptionalShadow, texel: [f32; 4]) -> [f32; 4]
     match shadow {
         OptionalShadow::Unshadowed => [1.0, 1.0, 1.0, 1.0],
         OptionalShadow::Shadowed(s) => inverted(s.invert, texel),
+    }
+}
+
+// 0 where there is none.
+pub fn bump_unit(bump: Bump) -> usize
+    ensures { λ r. ⌜ r ≡ bumpUnit bump ⌝ }
+{
+    match bump {
+        Bump::Flat => 0,
+        Bump::Normal(unit, _) => unit,
+        Bump::Tangent(unit) => unit,
     }
 }
 

@@ -2,10 +2,10 @@
 -- Assumes nothing.
 use Prim.Native.Nat.{ℕ, _+_, _*_}
 use mathlib.Core.Path.{_≡_, refl}
-use mathlib.Core.List.{List, [], _∷_, map}
-use mathlib.Core.Bool.{Bool, true, false}
+use mathlib.Core.List.{List, [], _∷_}
+use mathlib.Core.Bool.{true, false}
 use lib.ListN.{replicate, set}
-use lib.Ieee.{Float, nan, neg, add, sub, mul, div, lt, eq, isNan, ofInt, ofBits, round, sum, toUnsigned, toSigned}
+use lib.Ieee.{Float, nan, neg, add, sub, mul, div, lt, eq, isNan, ofInt, ofBits, toUnsigned, toSigned}
 use Rattle.root.specs.Root.{rootOf}
 use Rattle.binary32.specs.Words.{floatOf}
 use Rattle.binary32.specs.Numbers.{float0, float1}
@@ -14,13 +14,13 @@ use Rattle.binary32.specs.Floor.{floorOf}
 use Rattle.binary32.specs.Places.{unsignedPlaceOf, signedPlaceOf}
 use Rattle.binary32.specs.Quantize.{quantizedOf, channelOf}
 use Rattle.tables.specs.Lookup.{interpolated, lookupOf}
-use Rattle.vectors.specs.Vectors.{plusOf, minusOf, timesOf, overOf, dotOf, crossOf, normalizedOf, axisOf, turnOf, plusTwice, rotateOf}
+use Rattle.vectors.specs.Vectors.{at, plusOf, minusOf, timesOf, overOf, dotOf, crossOf, normalizedOf, axisOf, turnOf, plusTwice, rotateOf}
 use Rattle.lighting.specs.declared.Light.{Light}
 use Rattle.lighting.specs.declared.Lighting.{Lighting}
 use Rattle.lighting.specs.declared.Lookup.{Lookup}
 use Rattle.lighting.specs.declared.OptionalLookup.{OptionalLookup}
 use Rattle.lighting.specs.declared.OptionalLookup.the-variants.{Missing, Present}
-use Rattle.lighting.specs.declared.OptionalShadow.the-variants.{Unshadowed, Shadowed}
+use Rattle.lighting.specs.declared.OptionalShadow.the-variants.{Unshadowed}
 use Rattle.lighting.specs.declared.Bump.the-variants.{Flat}
 use Rattle.lighting.specs.declared.Distance.{Distance}
 use Rattle.lighting.specs.declared.Distance.the-variants.{Without, Scaled}
@@ -100,33 +100,39 @@ lit lights count fresnel =
       shadow = Unshadowed;
     }
 
--- entry `entry` of a table gives 0.5 and the step 0.25, and every other entry 0
-abbrev tables : ℕ → ℕ → List ℕ
-tables table entry =
-    set (set (replicate 12288 0) (2 * (256 * table + entry)) 0x3f00_0000) (2 * (256 * table + entry) + 1) 0x3e80_0000
+-- the tables, with value and step words at the entry of one table and at that of another, and every other entry 0
+abbrev tables : ℕ → ℕ → ℕ → ℕ → List ℕ
+tables table entry other place =
+    set
+    (set (set (replicate 12288 0) (2 * (256 * table + entry)) 0x3f00_0000) (2 * (256 * table + entry) + 1) 0x3e80_0000)
+    (2 * (256 * other + place)) 0x3f00_0000
+
+abbrev two-lamps : Lighting
+two-lamps =
+    lit (light ahead white none (Scaled float1 float0) 3 ∷ light ahead none none Without 1 ∷ []) 2 (Present lookup)
 
 record Cases : Type 0 where
   -- document 01's whole case: 255 255 255 255 0 0 0 255
   white-lamp : shaded (lit (light ahead white none Without 0 ∷ []) 1 Missing) [] ≡ 255 ∷ 255 ∷ 255 ∷ 255 ∷ 0 ∷ 0 ∷ 0 ∷ 255 ∷ []
+  -- as the Rust returns it: 1 1 1 1 0 0 0 1
+  white-colours : coloursOf (lit (light ahead white none Without 0 ∷ []) 1 Missing) [] (float0 ∷ none) none texels ≡ float1 ∷ float1 ∷ float1 ∷ float1 ∷ float0 ∷ float0 ∷ float0 ∷ float1 ∷ []
   -- NaN facing a one-sided light is 0, and ambient survives
   nan-facing : shaded (lit (light (nan ∷ nan ∷ nan ∷ []) white grey Without 0 ∷ []) 1 Missing) [] ≡ 127 ∷ 127 ∷ 127 ∷ 255 ∷ 0 ∷ 0 ∷ 0 ∷ 255 ∷ []
-  -- distance place 1 reads entry 255 with delta 1, in the table of the light's number: 0.75
-  distance : shaded (lit (light ahead white none (Scaled float1 float0) 3 ∷ []) 1 Missing) (tables 19 255) ≡ 191 ∷ 191 ∷ 191 ∷ 255 ∷ 0 ∷ 0 ∷ 0 ∷ 255 ∷ []
-  -- the table of the slot has nothing to say
-  not-by-slot : shaded (lit (light ahead white none (Scaled float1 float0) 3 ∷ []) 1 Missing) (tables 16 255) ≡ 0 ∷ 0 ∷ 0 ∷ 255 ∷ 0 ∷ 0 ∷ 0 ∷ 255 ∷ []
-  -- fresnel sets the alpha whose flag is set
-  fresnel : shaded (lit (light ahead white none Without 0 ∷ light ahead none none Without 1 ∷ []) 2 (Present lookup)) (tables 3 0) ≡ 255 ∷ 255 ∷ 255 ∷ 127 ∷ 0 ∷ 0 ∷ 0 ∷ 255 ∷ []
-  -- and after the first of two slots it is still 1
-  not-yet : sumsOf (tables 3 0) (lit (light ahead white none Without 0 ∷ light ahead none none Without 1 ∷ []) 2 (Present lookup)) (frameOf Flat [] 0 false (float0 ∷ none) none) (float1 ∷ white) 1 .diffuse ≡ float1 ∷ white
+  -- distance place 1 reads entry 255 with delta 1, in the table of the light's number, which is not its slot: 0.75. Fresnel sets the alpha whose flag is set: 0.5
+  looked-up : shaded two-lamps (tables 19 255 3 0) ≡ 191 ∷ 191 ∷ 191 ∷ 127 ∷ 0 ∷ 0 ∷ 0 ∷ 255 ∷ []
+  -- after the first of two slots alpha is still 1
+  not-yet : at (sumsOf [] two-lamps (frameOf Flat [] 0 false (float0 ∷ none) none) (float1 ∷ white) 1 .diffuse) 3 ≡ float1
+  -- after the last it is what fresnel gives, from tables of zeros
+  at-last : at (sumsOf [] two-lamps (frameOf Flat [] 0 false (float0 ∷ none) none) (float1 ∷ white) 2 .diffuse) 3 ≡ float0
 
 cases : Cases
 unfolding neg add sub mul div lt eq isNan ofInt ofBits toUnsigned toSigned rootOf magnitudeOf before maxOf minOf clampOf floorOf unsignedPlaceOf signedPlaceOf quantizedOf channelOf interpolated lookupOf plusOf minusOf timesOf overOf dotOf crossOf normalizedOf axisOf turnOf plusTwice rotateOf bumpUnit shadowUnit lengthOf quaternionOver unitQuaternion inverted shadowOf perturbed rebuiltZ rebuilt surfaceNormal surfaceTangent tangentOf unitIf frameOf lightVector halfOf towardOf offsetOf awayOf alongTangent inputsBy inputsOf facingOf highlightsOf factorBy factorOf placeOf inputOf valueOf valueIf spotOf fresnelOf distancePlace distanceBy distanceOf valuesBy valuesOf diffuseOf timesIf specular0Of reflectedOf specular1Of specularBy specularOf shadowFor addedOf summedOf withLightBy withLight shadowedAlpha finishOf present primaryOf secondaryOf alphaOf lookupsOf settingsOf stepOf sumsBy sumsOf lightingFrame lightingShadow shadeBy shadeOf coloursOf
 cases =
     record {
       white-lamp = refl;
+      white-colours = refl;
       nan-facing = refl;
-      distance = refl;
-      not-by-slot = refl;
-      fresnel = refl;
+      looked-up = refl;
       not-yet = refl;
+      at-last = refl;
     }

@@ -1,3 +1,4 @@
 pub mod Shade
+pub mod ShadeLaws
 pub mod Numbered
 pub mod Answers

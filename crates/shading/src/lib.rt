@@ -181,7 +181,7 @@ fn frame_of(l: Lighting, quaternion: [f32; 4], view: [f32; 3], texels: [[f32; 4]
     ensures { λ r. ⌜ r ≡ lightingFrame l quaternion view texels ⌝ }
 {
     let bump = l.bump;
-    let texel = texel_of(texels, block_accepted::unit_of_bump(bump));
+    let texel = texel_of(texels, shade_surface::bump_unit(bump));
     shade_surface::frame_of(bump, texel, l.config, l.needs_view, quaternion, view)
 }
 
@@ -190,7 +190,7 @@ fn shadow_of(l: Lighting, texels: [[f32; 4]; 4]) -> [f32; 4]
     ensures { λ r. ⌜ r ≡ lightingShadow l texels ⌝ }
 {
     let shadow = l.shadow;
-    let texel = texel_of(texels, block_accepted::unit_of_shadow(shadow));
+    let texel = texel_of(texels, shade_surface::shadow_unit(shadow));
     shade_surface::shadow_texel(shadow, texel)
 }
 

@@ -1,4 +1,4 @@
--- `decoding::decode` meets its contract. It makes the definition's own calls, in its order. Assumes nothing.
+-- `decoding::decode` meets its contract. The test is the definition's, and the rest is what `lighting` or `off` ensures. Assumes nothing.
 use mathlib.Core.Path.{sym}
 use Rattle.decoding.specs.Decode.{decoded, lightingOn}
 use borrow.Author.Needs.{needs}
@@ -25,11 +25,27 @@ off-requires c κs = search needs
 
 returns : tie.Need-returns
 unfolding decoded lightingOn
-returns c = simp (sym (c .before .before .before .before .before .register .ensures), sym (c .before .before .before .before .flag .ensures), sym (c .before .before .before .register2 .ensures), sym (c .before .before .flag2 .ensures), c .before .if1 .taken, c .lighting .ensures)
+returns c =
+    simp (
+      sym (c .before .before .before .before .before .register .ensures),
+      sym (c .before .before .before .before .flag .ensures),
+      sym (c .before .before .before .register2 .ensures),
+      sym (c .before .before .flag2 .ensures),
+      c .before .if1 .taken,
+      c .lighting .ensures,
+    )
 
 returns-2 : tie.Need-returns-2
 unfolding decoded lightingOn
-returns-2 c = simp (sym (c .before .before .before .before .before .register .ensures), sym (c .before .before .before .before .flag .ensures), sym (c .before .before .before .register2 .ensures), sym (c .before .before .flag2 .ensures), c .before .if1 .left, c .off .ensures)
+returns-2 c =
+    simp (
+      sym (c .before .before .before .before .before .register .ensures),
+      sym (c .before .before .before .before .flag .ensures),
+      sym (c .before .before .before .register2 .ensures),
+      sym (c .before .before .flag2 .ensures),
+      c .before .if1 .left,
+      c .off .ensures,
+    )
 
 pub decode-spec : {M : Type 1} → statement M
 decode-spec =

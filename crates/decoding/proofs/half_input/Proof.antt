@@ -27,7 +27,16 @@ input-half-requires c κs = search needs
 
 returns : tie.Need-returns
 unfolding halfInput
-returns c = simp (c .before .before .before .before .before .before .lookup-half .ensures, c .before .before .before .before .before .lookup-half2 .ensures, c .before .before .before .before .lookup-half3 .ensures, c .before .before .before .lookup-half4 .ensures, c .before .before .lookup-half5 .ensures, c .before .lookup-half6 .ensures, c .input-half .ensures)
+returns c =
+    simp (
+      c .before .before .before .before .before .before .lookup-half .ensures,
+      c .before .before .before .before .before .lookup-half2 .ensures,
+      c .before .before .before .before .lookup-half3 .ensures,
+      c .before .before .before .lookup-half4 .ensures,
+      c .before .before .lookup-half5 .ensures,
+      c .before .lookup-half6 .ensures,
+      c .input-half .ensures,
+    )
 
 pub half-input-spec : {M : Type 1} → statement M
 half-input-spec =

@@ -1,4 +1,4 @@
--- `decoding::lighting` meets its contract. It makes the definition's own calls, in its order. Assumes nothing.
+-- `decoding::lighting` meets its contract. Each field is what the call that makes it ensures, and the lights on are the first of the eight. Assumes nothing.
 use Rattle.decoding.specs.Needs.{litLights, needsHalf, needsView}
 use Rattle.decoding.specs.Decode.{lightingOf}
 use Rattle.lights.specs.LightLaws.{count-high}
@@ -56,7 +56,25 @@ shadow-requires c κs = search needs
 
 returns : tie.Need-returns
 unfolding lightingOf needsHalf needsView litLights
-returns c = simp (c .before .before .before .before .before .before .before .before .before .before .before .before .before .before .before .before .register .ensures, c .before .before .before .before .before .before .before .before .before .before .before .before .before .before .before .configuration .ensures, c .before .before .before .before .before .before .before .before .before .before .before .before .before .before .light-count .ensures, c .before .before .before .before .before .before .before .before .before .before .before .before .before .lights .ensures, c .before .before .before .before .before .before .before .before .before .before .before .before .lookups .ensures, c .before .before .before .before .before .before .before .before .before .before .any-spotlight .ensures, c .before .before .before .before .before .before .before .before .before .any-geometric .ensures, c .before .before .before .before .before .before .before .before .half-input .ensures, c .before .before .before .before .before .before .before .view-input .ensures, c .before .before .before .before .before .before .register2 .ensures, c .before .before .before .before .before .color .ensures, c .before .before .before .before .flag .ensures, c .before .before .before .flag2 .ensures, c .before .before .flag3 .ensures, c .before .bump .ensures, c .shadow .ensures)
+returns c =
+    simp (
+      c .before .before .before .before .before .before .before .before .before .before .before .before .before .before .before .before .register .ensures,
+      c .before .before .before .before .before .before .before .before .before .before .before .before .before .before .before .configuration .ensures,
+      c .before .before .before .before .before .before .before .before .before .before .before .before .before .before .light-count .ensures,
+      c .before .before .before .before .before .before .before .before .before .before .before .before .before .lights .ensures,
+      c .before .before .before .before .before .before .before .before .before .before .before .before .lookups .ensures,
+      c .before .before .before .before .before .before .before .before .before .before .any-spotlight .ensures,
+      c .before .before .before .before .before .before .before .before .before .any-geometric .ensures,
+      c .before .before .before .before .before .before .before .before .half-input .ensures,
+      c .before .before .before .before .before .before .before .view-input .ensures,
+      c .before .before .before .before .before .before .register2 .ensures,
+      c .before .before .before .before .before .color .ensures,
+      c .before .before .before .before .flag .ensures,
+      c .before .before .before .flag2 .ensures,
+      c .before .before .flag3 .ensures,
+      c .before .bump .ensures,
+      c .shadow .ensures,
+    )
 
 pub lighting-spec : {M : Type 1} → statement M
 lighting-spec =

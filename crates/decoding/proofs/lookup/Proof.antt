@@ -39,7 +39,16 @@ scale-requires c κs = search needs
 
 returns : tie.Need-returns
 unfolding lookupOf
-returns c = simp (c .before .before .before .before .before .before .register .ensures, c .before .before .before .before .before .bits .ensures, c .before .before .before .before .register2 .ensures, c .before .before .before .flag .ensures, c .before .before .register3 .ensures, c .before .bits2 .ensures, c .scale .ensures)
+returns c =
+    simp (
+      c .before .before .before .before .before .before .register .ensures,
+      c .before .before .before .before .before .bits .ensures,
+      c .before .before .before .before .register2 .ensures,
+      c .before .before .before .flag .ensures,
+      c .before .before .register3 .ensures,
+      c .before .bits2 .ensures,
+      c .scale .ensures,
+    )
 
 pub lookup-spec : {M : Type 1} → statement M
 lookup-spec =

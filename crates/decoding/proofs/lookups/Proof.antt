@@ -1,4 +1,4 @@
--- `decoding::lookups` meets its contract. It makes the definition's own calls, in its order. Assumes nothing.
+-- `decoding::lookups` meets its contract. Each field is what `table` or `lookup` ensures. Assumes nothing.
 use Rattle.decoding.specs.Tables.{lookupsOf}
 use borrow.Author.Needs.{needs}
 use Rattle.decoding.proofs.lookups.Statement.{statement}
@@ -27,7 +27,16 @@ lookup-requires c κs = search needs
 
 returns : tie.Need-returns
 unfolding lookupsOf
-returns c = simp (c .before .before .before .before .before .before .table .ensures, c .before .before .before .before .before .table2 .ensures, c .before .before .before .before .table3 .ensures, c .before .before .before .table4 .ensures, c .before .before .table5 .ensures, c .before .table6 .ensures, c .lookup .ensures)
+returns c =
+    simp (
+      c .before .before .before .before .before .before .table .ensures,
+      c .before .before .before .before .before .table2 .ensures,
+      c .before .before .before .before .table3 .ensures,
+      c .before .before .before .table4 .ensures,
+      c .before .before .table5 .ensures,
+      c .before .table6 .ensures,
+      c .lookup .ensures,
+    )
 
 pub lookups-spec : {M : Type 1} → statement M
 lookups-spec =

@@ -1,4 +1,4 @@
--- `decoding::off` meets its contract.  Assumes nothing.
+-- `decoding::off` meets its contract. The lighting is what `blank_lighting` ensures. Assumes nothing.
 use Rattle.decoding.specs.Decode.{off}
 use borrow.Author.Needs.{needs}
 use Rattle.decoding.proofs.off.Statement.{statement}

@@ -28,7 +28,16 @@ flag-requires-5 c κs = search needs
 
 returns : tie.Need-returns
 unfolding shadowOf
-returns c = simp (sym (c .before .before .before .before .before .before .flag .ensures), c .before .before .before .before .before .if1 .taken, c .before .before .before .before .bits .ensures, c .before .before .before .flag2 .ensures, c .before .before .flag3 .ensures, c .before .flag4 .ensures, c .flag5 .ensures)
+returns c =
+    simp (
+      sym (c .before .before .before .before .before .before .flag .ensures),
+      c .before .before .before .before .before .if1 .taken,
+      c .before .before .before .before .bits .ensures,
+      c .before .before .before .flag2 .ensures,
+      c .before .before .flag3 .ensures,
+      c .before .flag4 .ensures,
+      c .flag5 .ensures,
+    )
 
 returns-2 : tie.Need-returns-2
 unfolding shadowOf

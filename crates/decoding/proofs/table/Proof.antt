@@ -22,11 +22,26 @@ lookup-requires c κs = search needs
 
 returns : tie.Need-returns
 unfolding tableOf
-returns c = simp (sym (c .before .before .before .before .before .register .ensures), sym (c .before .before .before .before .flag .ensures), sym (c .before .before .before .configuration .ensures), sym (c .before .before .supported .ensures), c .before .if1 .taken, c .lookup .ensures)
+returns c =
+    simp (
+      sym (c .before .before .before .before .before .register .ensures),
+      sym (c .before .before .before .before .flag .ensures),
+      sym (c .before .before .before .configuration .ensures),
+      sym (c .before .before .supported .ensures),
+      c .before .if1 .taken,
+      c .lookup .ensures,
+    )
 
 returns-2 : tie.Need-returns-2
 unfolding tableOf
-returns-2 c = simp (sym (c .before .before .before .before .register .ensures), sym (c .before .before .before .flag .ensures), sym (c .before .before .configuration .ensures), sym (c .before .supported .ensures), c .if1 .left)
+returns-2 c =
+    simp (
+      sym (c .before .before .before .before .register .ensures),
+      sym (c .before .before .before .flag .ensures),
+      sym (c .before .before .configuration .ensures),
+      sym (c .before .supported .ensures),
+      c .if1 .left,
+    )
 
 pub table-spec : {M : Type 1} → statement M
 table-spec =

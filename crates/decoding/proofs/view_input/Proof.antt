@@ -27,7 +27,16 @@ input-view-requires c κs = search needs
 
 returns : tie.Need-returns
 unfolding viewInput
-returns c = simp (c .before .before .before .before .before .before .lookup-view .ensures, c .before .before .before .before .before .lookup-view2 .ensures, c .before .before .before .before .lookup-view3 .ensures, c .before .before .before .lookup-view4 .ensures, c .before .before .lookup-view5 .ensures, c .before .lookup-view6 .ensures, c .input-view .ensures)
+returns c =
+    simp (
+      c .before .before .before .before .before .before .lookup-view .ensures,
+      c .before .before .before .before .before .lookup-view2 .ensures,
+      c .before .before .before .before .lookup-view3 .ensures,
+      c .before .before .before .lookup-view4 .ensures,
+      c .before .before .lookup-view5 .ensures,
+      c .before .lookup-view6 .ensures,
+      c .input-view .ensures,
+    )
 
 pub view-input-spec : {M : Type 1} → statement M
 view-input-spec =

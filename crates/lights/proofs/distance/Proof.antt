@@ -1,4 +1,4 @@
--- `lights::distance` meets its contract. It makes the definition's own calls, in its order. Assumes nothing.
+-- `lights::distance` meets its contract. The test is the bit of the light's number, and what is scaled is what `float20` ensures. Assumes nothing.
 use mathlib.Core.Path.{sym}
 use Rattle.lights.specs.Lights.{distanceOf}
 use borrow.Author.Needs.{needs}
@@ -35,7 +35,16 @@ float20-requires-2 c κs = search needs
 
 returns-2 : tie.Need-returns-2
 unfolding distanceOf
-returns-2 c = simp (sym (c .before .before .before .before .before .before .before .register .ensures), sym (c .before .before .before .before .before .flag .ensures), c .before .before .before .before .if1 .left, c .before .before .before .light-register .ensures, c .before .before .float20 .ensures, c .before .light-register2 .ensures, c .float202 .ensures)
+returns-2 c =
+    simp (
+      sym (c .before .before .before .before .before .before .before .register .ensures),
+      sym (c .before .before .before .before .before .flag .ensures),
+      c .before .before .before .before .if1 .left,
+      c .before .before .before .light-register .ensures,
+      c .before .before .float20 .ensures,
+      c .before .light-register2 .ensures,
+      c .float202 .ensures,
+    )
 
 pub distance-spec : {M : Type 1} → statement M
 distance-spec =

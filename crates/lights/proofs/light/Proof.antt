@@ -1,4 +1,4 @@
--- `lights::light` meets its contract. It makes the definition's own calls, in its order. Assumes nothing.
+-- `lights::light` meets its contract. Each field is what the call that makes it ensures. Assumes nothing.
 use Rattle.lights.specs.Lights.{lightOf}
 use borrow.Author.Needs.{needs}
 use Rattle.lights.proofs.light.Statement.{statement}
@@ -57,7 +57,25 @@ flag-requires-5 c κs = search needs
 
 returns : tie.Need-returns
 unfolding lightOf
-returns c = simp (c .before .before .before .before .before .before .before .before .before .before .before .before .before .before .before .before .position .ensures, c .before .before .before .before .before .before .before .before .before .before .before .before .before .before .before .light-register .ensures, c .before .before .before .before .before .before .before .before .before .before .before .before .before .before .light-color .ensures, c .before .before .before .before .before .before .before .before .before .before .before .before .before .light-color2 .ensures, c .before .before .before .before .before .before .before .before .before .before .before .before .light-color3 .ensures, c .before .before .before .before .before .before .before .before .before .before .before .light-color4 .ensures, c .before .before .before .before .before .before .before .before .before .before .normalized .ensures, c .before .before .before .before .before .before .before .before .before .spot .ensures, c .before .before .before .before .before .before .before .before .flag .ensures, c .before .before .before .before .before .before .before .flag2 .ensures, c .before .before .before .before .before .before .flag3 .ensures, c .before .before .before .before .before .flag4 .ensures, c .before .before .before .before .distance .ensures, c .before .before .before .spotlit .ensures, c .before .before .register .ensures, c .flag5 .ensures)
+returns c =
+    simp (
+      c .before .before .before .before .before .before .before .before .before .before .before .before .before .before .before .before .position .ensures,
+      c .before .before .before .before .before .before .before .before .before .before .before .before .before .before .before .light-register .ensures,
+      c .before .before .before .before .before .before .before .before .before .before .before .before .before .before .light-color .ensures,
+      c .before .before .before .before .before .before .before .before .before .before .before .before .before .light-color2 .ensures,
+      c .before .before .before .before .before .before .before .before .before .before .before .before .light-color3 .ensures,
+      c .before .before .before .before .before .before .before .before .before .before .before .light-color4 .ensures,
+      c .before .before .before .before .before .before .before .before .before .before .normalized .ensures,
+      c .before .before .before .before .before .before .before .before .before .spot .ensures,
+      c .before .before .before .before .before .before .before .before .flag .ensures,
+      c .before .before .before .before .before .before .before .flag2 .ensures,
+      c .before .before .before .before .before .before .flag3 .ensures,
+      c .before .before .before .before .before .flag4 .ensures,
+      c .before .before .before .before .distance .ensures,
+      c .before .before .before .spotlit .ensures,
+      c .before .before .register .ensures,
+      c .flag5 .ensures,
+    )
 
 pub light-spec : {M : Type 1} → statement M
 light-spec =

@@ -1,4 +1,4 @@
--- `lights::lights` meets its contract. It makes the definition's own calls, in its order. Assumes nothing.
+-- `lights::lights` meets its contract. Each of the eight is what `slot_light` ensures of its slot. Assumes nothing.
 use Rattle.lights.specs.Lights.{lightsOf}
 use borrow.Author.Needs.{needs}
 use Rattle.lights.proofs.lights.Statement.{statement}
@@ -30,7 +30,17 @@ slot-light-requires-8 c κs = search needs
 
 returns : tie.Need-returns
 unfolding lightsOf
-returns c = simp (c .before .before .before .before .before .before .before .slot-light .ensures, c .before .before .before .before .before .before .slot-light2 .ensures, c .before .before .before .before .before .slot-light3 .ensures, c .before .before .before .before .slot-light4 .ensures, c .before .before .before .slot-light5 .ensures, c .before .before .slot-light6 .ensures, c .before .slot-light7 .ensures, c .slot-light8 .ensures)
+returns c =
+    simp (
+      c .before .before .before .before .before .before .before .slot-light .ensures,
+      c .before .before .before .before .before .before .slot-light2 .ensures,
+      c .before .before .before .before .before .slot-light3 .ensures,
+      c .before .before .before .before .slot-light4 .ensures,
+      c .before .before .before .slot-light5 .ensures,
+      c .before .before .slot-light6 .ensures,
+      c .before .slot-light7 .ensures,
+      c .slot-light8 .ensures,
+    )
 
 pub lights-spec : {M : Type 1} → statement M
 lights-spec =

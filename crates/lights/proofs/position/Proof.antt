@@ -21,7 +21,14 @@ half-requires-3 c κs = search needs
 
 returns : tie.Need-returns
 unfolding positionOf
-returns c = simp (c .before .before .before .before .light-register .ensures, c .before .before .before .light-register2 .ensures, c .before .before .half .ensures, c .before .half2 .ensures, c .half3 .ensures)
+returns c =
+    simp (
+      c .before .before .before .before .light-register .ensures,
+      c .before .before .before .light-register2 .ensures,
+      c .before .before .half .ensures,
+      c .before .half2 .ensures,
+      c .half3 .ensures,
+    )
 
 pub position-spec : {M : Type 1} → statement M
 position-spec =

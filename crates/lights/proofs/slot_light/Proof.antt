@@ -1,4 +1,4 @@
--- `lights::slot_light` meets its contract. It makes the definition's own calls, in its order. Assumes nothing.
+-- `lights::slot_light` meets its contract. The test is the count's, and the light is that of the slot's number, which is below 8, or the blank one. Assumes nothing.
 use Rattle.lights.specs.Lights.{slotLight}
 use borrow.Author.Needs.{needs}
 use borrow.Author.Tests.{lt-ltb, le-ltb}
@@ -20,11 +20,22 @@ blank-light-requires c κs = search needs
 
 returns : tie.Need-returns
 unfolding slotLight
-returns c = simp (c .before .before .before .before .light-count .ensures, lt-ltb _ _ (rw (c .before .before .before .before .light-count .ensures) at (c .before .before .if1 .taken)), c .before .light-number .ensures, c .light .ensures)
+returns c =
+    simp (
+      c .before .before .before .before .light-count .ensures,
+      lt-ltb _ _ (rw (c .before .before .before .before .light-count .ensures) at (c .before .before .if1 .taken)),
+      c .before .light-number .ensures,
+      c .light .ensures,
+    )
 
 returns-2 : tie.Need-returns-2
 unfolding slotLight
-returns-2 c = simp (c .before .before .before .light-count .ensures, le-ltb _ _ (rw (c .before .before .before .light-count .ensures) at (c .before .if1 .left)), c .blank-light .ensures)
+returns-2 c =
+    simp (
+      c .before .before .before .light-count .ensures,
+      le-ltb _ _ (rw (c .before .before .before .light-count .ensures) at (c .before .if1 .left)),
+      c .blank-light .ensures,
+    )
 
 pub slot-light-spec : {M : Type 1} → statement M
 slot-light-spec =

@@ -21,7 +21,14 @@ fixed-requires-3 c κs = search needs
 
 returns : tie.Need-returns
 unfolding spotOf
-returns c = simp (c .before .before .before .before .light-register .ensures, c .before .before .before .light-register2 .ensures, c .before .before .fixed .ensures, c .before .fixed2 .ensures, c .fixed3 .ensures)
+returns c =
+    simp (
+      c .before .before .before .before .light-register .ensures,
+      c .before .before .before .light-register2 .ensures,
+      c .before .before .fixed .ensures,
+      c .before .fixed2 .ensures,
+      c .fixed3 .ensures,
+    )
 
 pub spot-spec : {M : Type 1} → statement M
 spot-spec =

@@ -24,7 +24,13 @@ supported-requires c κs = search needs
 
 returns : tie.Need-returns
 unfolding spotlitOf
-returns c = simp (c .before .before .before .before .register .ensures, c .before .before .flag .ensures, c .before .configuration .ensures, c .supported .ensures)
+returns c =
+    simp (
+      c .before .before .before .before .register .ensures,
+      c .before .before .flag .ensures,
+      c .before .configuration .ensures,
+      c .supported .ensures,
+    )
 
 pub spotlit-spec : {M : Type 1} → statement M
 spotlit-spec =

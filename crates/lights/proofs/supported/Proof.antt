@@ -68,15 +68,31 @@ returns-10 c = rw (c .match .keys5)
 other : (c : tie.At-match-rest) → supportedBy (c .before .args .config) (c .before .args .table) ≡ (eqb (c .before .args .config) 4 || eqb (c .before .args .config) 5 || eqb (c .before .args .config) 8)
 unfolding supportedBy
 other c =
-    rw (ne-eqb (c .before .args .table) 0 (c .match .rest .0 .0 .0 .0 .1), ne-eqb (c .before .args .table) 1 (c .match .rest .0 .0 .0 .1), ne-eqb (c .before .args .table) 8 (c .match .rest .0 .0 .1), ne-eqb (c .before .args .table) 3 (c .match .rest .0 .1), ne-eqb (c .before .args .table) 6 (c .match .rest .1))
+    rw (
+      ne-eqb (c .before .args .table) 0 (c .match .rest .0 .0 .0 .0 .1),
+      ne-eqb (c .before .args .table) 1 (c .match .rest .0 .0 .0 .1),
+      ne-eqb (c .before .args .table) 8 (c .match .rest .0 .0 .1),
+      ne-eqb (c .before .args .table) 3 (c .match .rest .0 .1),
+      ne-eqb (c .before .args .table) 6 (c .match .rest .1),
+    )
 
 returns-11 : tie.Need-returns-11
 returns-11 c =
-    rw (other (c .before .before), ne-eqb (c .before .before .before .args .config) 4 (λ e. omega arith), ne-eqb (c .before .before .before .args .config) 5 (λ e. omega arith), ne-eqb (c .before .before .before .args .config) 8 (c .before .match4 .rest .1))
+    rw (
+      other (c .before .before),
+      ne-eqb (c .before .before .before .args .config) 4 (λ e. omega arith),
+      ne-eqb (c .before .before .before .args .config) 5 (λ e. omega arith),
+      ne-eqb (c .before .before .before .args .config) 8 (c .before .match4 .rest .1),
+    )
 
 returns-12 : tie.Need-returns-12
 returns-12 c =
-    rw (other (c .before .before .before), ne-eqb (c .before .before .before .before .args .config) 4 (λ e. omega arith), ne-eqb (c .before .before .before .before .args .config) 5 (λ e. omega arith), ne-eqb (c .before .before .before .before .args .config) 8 (c .before .before .match4 .rest .1))
+    rw (
+      other (c .before .before .before),
+      ne-eqb (c .before .before .before .before .args .config) 4 (λ e. omega arith),
+      ne-eqb (c .before .before .before .before .args .config) 5 (λ e. omega arith),
+      ne-eqb (c .before .before .before .before .args .config) 8 (c .before .before .match4 .rest .1),
+    )
 
 returns-13 : tie.Need-returns-13
 returns-13 c = rw (other (c .before), c .match4 .keys1)

@@ -5,19 +5,19 @@ use borrow.Author.Needs.{needs}
 use Rattle.shading.proofs.frame_of.Statement.{statement}
 use Rattle.shading.proofs.frame_of.Tie as tie
 
-unit-of-bump-requires : tie.Need-unit-of-bump-requires
-unit-of-bump-requires c κs = search needs
+bump-unit-requires : tie.Need-bump-unit-requires
+bump-unit-requires c κs = search needs
 
 texel-of-requires : tie.Need-texel-of-requires
-texel-of-requires c κs = rw (c .unit-of-bump .ensures) (range-bump _ (c .before .pre))
+texel-of-requires c κs = rw (c .bump-unit .ensures) (range-bump _ (c .before .pre))
 
 frame-of-requires : tie.Need-frame-of-requires
 frame-of-requires c κs = search needs
 
 returns : tie.Need-returns
 unfolding lightingFrame
-returns c = simp (c .frame-of .ensures, c .before .texel-of .ensures, c .before .before .unit-of-bump .ensures)
+returns c = simp (c .frame-of .ensures, c .before .texel-of .ensures, c .before .before .bump-unit .ensures)
 
 pub frame-of-spec : {M : Type 1} → statement M
 frame-of-spec =
-    tie.close (tie.spec unit-of-bump-requires texel-of-requires frame-of-requires returns)
+    tie.close (tie.spec bump-unit-requires texel-of-requires frame-of-requires returns)

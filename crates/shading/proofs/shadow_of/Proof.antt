@@ -5,19 +5,19 @@ use borrow.Author.Needs.{needs}
 use Rattle.shading.proofs.shadow_of.Statement.{statement}
 use Rattle.shading.proofs.shadow_of.Tie as tie
 
-unit-of-shadow-requires : tie.Need-unit-of-shadow-requires
-unit-of-shadow-requires c κs = search needs
+shadow-unit-requires : tie.Need-shadow-unit-requires
+shadow-unit-requires c κs = search needs
 
 texel-of-requires : tie.Need-texel-of-requires
-texel-of-requires c κs = rw (c .unit-of-shadow .ensures) (range-shadow _ (c .before .pre))
+texel-of-requires c κs = rw (c .shadow-unit .ensures) (range-shadow _ (c .before .pre))
 
 shadow-texel-requires : tie.Need-shadow-texel-requires
 shadow-texel-requires c κs = search needs
 
 returns : tie.Need-returns
 unfolding lightingShadow
-returns c = simp (c .shadow-texel .ensures, c .before .texel-of .ensures, c .before .before .unit-of-shadow .ensures)
+returns c = simp (c .shadow-texel .ensures, c .before .texel-of .ensures, c .before .before .shadow-unit .ensures)
 
 pub shadow-of-spec : {M : Type 1} → statement M
 shadow-of-spec =
-    tie.close (tie.spec unit-of-shadow-requires texel-of-requires shadow-texel-requires returns)
+    tie.close (tie.spec shadow-unit-requires texel-of-requires shadow-texel-requires returns)

@@ -6,7 +6,6 @@ use native.Mathlib.Omega.{arith}
 use native.Mathlib.Numerals.{add-one}
 use borrow.Author.Needs.{needs}
 use Rattle.shading.specs.Shade.{sumsBy}
-use Rattle.shading.specs.Numbered.{Numbered}
 use Rattle.shading.proofs.sum_lights.Statement.{statement}
 use Rattle.shading.proofs.sum_lights.Tie as tie
 

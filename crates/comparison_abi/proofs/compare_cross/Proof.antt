@@ -1,0 +1,23 @@
+-- `comparison_abi::compare_cross` meets its contract. The index is a remainder by three, so it lies in the array, whose list is the one that `cross` ensures. Assumes nothing.
+use borrow.Author.Needs.{needs}
+use Rattle.comparison_abi.proofs.compare_cross.Statement.{statement}
+use Rattle.comparison_abi.proofs.compare_cross.Tie as tie
+
+cross-requires : tie.Need-cross-requires
+cross-requires c κs = search needs
+
+cast-i : tie.Need-cast-i
+cast-i c = search needs
+
+mul-result : tie.Need-mul-result
+mul-result c = search needs
+
+array-read-result : tie.Need-array-read-result
+array-read-result c = search needs
+
+returns : tie.Need-returns
+returns c = cc
+
+pub compare-cross-spec : {M : Type 1} → statement M
+compare-cross-spec =
+    tie.close (tie.spec cross-requires cast-i mul-result array-read-result returns)

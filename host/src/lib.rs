@@ -1,0 +1,28 @@
+//! The proved code as Rust calls it, and the Rust module that it is compared with.
+//!
+//! A float crosses as its word. A NaN comes back as 7FC00000, so the module's own words are brought
+//! to that form by [`word`] before they are compared.
+
+pub mod blocks;
+pub mod floats;
+pub mod patterns;
+pub mod tables;
+
+/// The module, as it stands in the file that the build was given, with `access` appended.
+#[cfg(oracle)]
+#[allow(dead_code, clippy::all)]
+pub mod oracle {
+    include!(concat!(env!("OUT_DIR"), "/lighting.rs"));
+}
+
+/// The one NaN's word.
+pub const NAN: u32 = 0x7FC0_0000;
+
+/// A float's word, every NaN as 7FC00000.
+pub fn word(x: f32) -> u32 {
+    if x.is_nan() {
+        NAN
+    } else {
+        x.to_bits()
+    }
+}
