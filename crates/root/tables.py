@@ -1,5 +1,5 @@
 #!/usr/bin/env python3
-"""Writes the parabolas of `guess`: python3 tables.py > src/parts.rt
+"""Prints the function `part` of src/lib.rt, the parabolas of `guess`: python3 tables.py
 
 `guess` is asked for the root of wide(z), for a z below 2 ^ 24. Part i of 256 holds the z = i * 65536 + d with d below 65536. There the guess is
 
@@ -52,10 +52,9 @@ def wrong(entries):
 
 
 entries = [entry(i) for i in range(PARTS)]
-print("// The parabolas of `guess`, one for each of 256 parts, written by tables.py. Nothing is proved of their numbers.")
-print()
+print("// The parabolas of `guess`, one for each of 256 parts, written by tables.py: nothing is proved of their numbers.")
 print("// Slope, height and bend of part i, in 21, 30 and 13 binary digits.")
-print("pub(crate) fn part(i: u32) -> u64 {\n    match i {")
+print("fn part(i: u32) -> u64 {\n    match i {")
 for i, (slope, height, bend) in enumerate(entries):
     name = str(i) if i < PARTS - 1 else "_"
     print(f"        {name} => {slope * 2**43 + height * 2**13 + bend},")
