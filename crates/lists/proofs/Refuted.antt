@@ -17,16 +17,14 @@ use Rattle.unit.specs.Fresh.{freshCache}
 use Rattle.unit.specs.CachedRead.{current, readAnew, refreshed}
 use Rattle.unit.specs.HandOver.{handed, taken, handOverRead, handOverIf}
 use Rattle.unit.specs.DecodedLaws.{decoded-packable}
-use Rattle.block_shading.specs.BlockShading.{Shaded, shaded}
-use Rattle.lists.specs.Parts.{Parts, Laws, shadeFrom}
+use Rattle.block_shading.specs.BlockShading.{Shaded, blockShading}
+use Rattle.lists.specs.ShadesLaws.{block-shades}
 use Rattle.lists.specs.States.{State, fresh, Implementation}
 use Rattle.lists.specs.Calls.{Call, step, run}
 use Rattle.lists.specs.Calls.Call.{Write, Restore, HandOver}
 use Rattle.lists.specs.Calls.Lent.{own}
 use Rattle.lists.specs.Plain.{plain, plainRun, plainStep, zeros, accepts, does, plainWrite}
-use Rattle.lists.specs.Claim.{Demand3, EndsHandedOver, HandsOver}
-use Rattle.lists.specs.Demand3.{parts}
-use Rattle.lists.specs.Demand3Laws.{laws}
+use Rattle.lists.specs.Claim.{shadeFrom, Demand3, EndsHandedOver, HandsOver}
 use Rattle.lists.specs.Wrong.{refusesWrites, paintsOne, copyingNothing, copiesNothing, copyingOnce, copiesOnce}
 
 decoded-on : (f : List ℕ) → decoded f .on ≡ lightingOn f
@@ -37,15 +35,14 @@ decoded-on f = go (lightingOn f)
     go true = refl
     go false = refl
 
-module _ (P : Parts) where
-  -- the number that block shading is to answer with
-  shade-on : (r e q a : List ℕ) → lightingOn r ≡ true → shadeFrom P r e q a .number ≡ 0
-  unfolding shadeFrom
-  shade-on r e q a h = rw (decoded-on r ∙ h) refl
+-- the number that block shading is to answer with
+shade-on : (r e q a : List ℕ) → lightingOn r ≡ true → shadeFrom r e q a .number ≡ 0
+unfolding shadeFrom
+shade-on r e q a h = rw (decoded-on r ∙ h) refl
 
-  shade-off : (r e q a : List ℕ) → lightingOn r ≡ false → shadeFrom P r e q a .number ≡ 100
-  unfolding shadeFrom
-  shade-off r e q a h = rw (decoded-on r ∙ h) refl
+shade-off : (r e q a : List ℕ) → lightingOn r ≡ false → shadeFrom r e q a .number ≡ 100
+unfolding shadeFrom
+shade-off r e q a h = rw (decoded-on r ∙ h) refl
 
 -- a lighting that is off leaves a block of zeros
 packed-off : (f : List ℕ) → lightingOn f ≡ false → packedReading (decoded f) ≡ replicate 328 0
@@ -94,78 +91,64 @@ fragment = replicate 23 0
 answer : List ℕ
 answer = replicate 8 0
 
-module _ (P : Parts) (L : Laws P) where
-  -- block shading of zeros
-  zeros-off : (b e : List ℕ) → b ≡ replicate 328 0 → length e ≡ 12288 → P .blockShading b e fragment answer .number ≡ 100
-  unfolding fragment answer lightingOn
-  zeros-off b e h n =
-      rw (h, ← (packed-off (replicate 474 0) refl))
-      (ap (λ (s : Shaded). s .number) (L .shades (replicate 474 0) e fragment answer n refl refl) ∙ shade-off P (replicate 474 0) e fragment answer refl)
+-- block shading of zeros
+zeros-off : (b e : List ℕ) → b ≡ replicate 328 0 → length e ≡ 12288 → blockShading b e fragment answer .number ≡ 100
+unfolding fragment answer lightingOn
+zeros-off b e h n =
+    rw (h, ← (packed-off (replicate 474 0) refl))
+    (ap (λ (s : Shaded). s .number) (block-shades (replicate 474 0) e fragment answer n refl refl) ∙ shade-off (replicate 474 0) e fragment answer refl)
 
-  -- a copy of zeros while the machine's lighting is on
-  stale : (b e r x : List ℕ) → b ≡ replicate 328 0 → length e ≡ 12288 → lightingOn r ≡ true → P .blockShading b e fragment answer ≡ shadeFrom P r x fragment answer → ⊥
-  stale b e r x h n o q =
-      omega (arith, sym (zeros-off b e h n) ∙ ap (λ (s : Shaded). s .number) q ∙ shade-on P r x fragment answer o)
+-- a copy of zeros while the machine's lighting is on
+stale : (b e r x : List ℕ) → b ≡ replicate 328 0 → length e ≡ 12288 → lightingOn r ≡ true → blockShading b e fragment answer ≡ shadeFrom r x fragment answer → ⊥
+stale b e r x h n o q =
+    omega (arith, sym (zeros-off b e h n) ∙ ap (λ (s : Shaded). s .number) q ∙ shade-on r x fragment answer o)
 
-  refuses-refuted : Demand3 P (refusesWrites P) → ⊥
-  unfolding Demand3 EndsHandedOver HandsOver run step fresh fileRefusal tablesRefusal blockRefusal plainRun plainStep zeros accepts does plainWrite isData lightingOn handOver switchOn fragment answer
-  refuses-refuted d =
-      let after = d 474 (lit≤ tt) (switchOn ∷ handOver ∷ []) (lit< tt) in
-      stale _ _ (set (replicate 474 0) 0x08F 1) (replicate 12288 0)
-      (first-block (replicate 474 0) (replicate 12288 0) 0 (replicate 328 0) (replicate 12288 0) 0 ∙ packed-off (replicate 474 0) refl)
-      (ap length (first-tables (replicate 474 0) (replicate 12288 0) 0 (replicate 328 0) (replicate 12288 0) 0))
-      refl
-      (after .shades refl fragment answer refl refl)
+refuses-refuted : Demand3 refusesWrites → ⊥
+unfolding Demand3 EndsHandedOver HandsOver run step fresh fileRefusal tablesRefusal blockRefusal plainRun plainStep zeros accepts does plainWrite isData lightingOn handOver switchOn fragment answer
+refuses-refuted d =
+    let after = d 474 (lit≤ tt) (switchOn ∷ handOver ∷ []) (lit< tt) in
+    stale _ _ (set (replicate 474 0) 0x08F 1) (replicate 12288 0)
+    (first-block (replicate 474 0) (replicate 12288 0) 0 (replicate 328 0) (replicate 12288 0) 0 ∙ packed-off (replicate 474 0) refl)
+    (ap length (first-tables (replicate 474 0) (replicate 12288 0) 0 (replicate 328 0) (replicate 12288 0) 0))
+    refl
+    (after .shades refl fragment answer refl refl)
 
-  nothing-refuted : Demand3 P (copiesNothing P) → ⊥
-  unfolding Demand3 EndsHandedOver HandsOver run step fresh copyingNothing plainRun plainStep zeros accepts does plainWrite isData lightingOn handOver switchOn fragment answer
-  nothing-refuted d =
-      let after = d 474 (lit≤ tt) (switchOn ∷ handOver ∷ []) (lit< tt) in
-      stale (replicate 328 0) (replicate 12288 0) (set (replicate 474 0) 0x08F 1) (replicate 12288 0) refl refl refl (after .shades refl fragment answer refl refl)
+nothing-refuted : Demand3 copiesNothing → ⊥
+unfolding Demand3 EndsHandedOver HandsOver run step fresh copyingNothing plainRun plainStep zeros accepts does plainWrite isData lightingOn handOver switchOn fragment answer
+nothing-refuted d =
+    let after = d 474 (lit≤ tt) (switchOn ∷ handOver ∷ []) (lit< tt) in
+    stale (replicate 328 0) (replicate 12288 0) (set (replicate 474 0) 0x08F 1) (replicate 12288 0) refl refl refl (after .shades refl fragment answer refl refl)
 
-  -- a hand-over that copies only the first time leaves a copy whose generation is not 0
-  once-block : (s : State) → eqb (s .copy .generation) 0 ≡ false → step (copiesOnce P) s handOver .copy .block ≡ s .copy .block
-  unfolding step handOver copyingOnce copyingNothing
-  once-block s e = rw e refl
+-- a hand-over that copies only the first time leaves a copy whose generation is not 0
+once-block : (s : State) → eqb (s .copy .generation) 0 ≡ false → step copiesOnce s handOver .copy .block ≡ s .copy .block
+unfolding step handOver copyingOnce copyingNothing
+once-block s e = rw e refl
 
-  once-tables : (s : State) → eqb (s .copy .generation) 0 ≡ false → step (copiesOnce P) s handOver .copy .tables ≡ s .copy .tables
-  unfolding step handOver copyingOnce copyingNothing
-  once-tables s e = rw e refl
+once-tables : (s : State) → eqb (s .copy .generation) 0 ≡ false → step copiesOnce s handOver .copy .tables ≡ s .copy .tables
+unfolding step handOver copyingOnce copyingNothing
+once-tables s e = rw e refl
 
-  -- the first hand-over copies a block of zeros, after a restore of zeros; the second, once lighting is on, copies nothing
-  once-refuted : Demand3 P (copiesOnce P) → ⊥
-  unfolding Demand3 EndsHandedOver HandsOver run step fresh restoreIf last fileRefusal tablesRefusal savedRefusal blockRefusal copyingOnce plainRun plainStep zeros accepts does plainWrite isData lightingOn handOver switchOn restoring fragment answer
-  once-refuted d =
-      let file : List ℕ = replicate 474 0 in
-      let tables : List ℕ = replicate 12288 0 in
-      let block : List ℕ = replicate 328 0 in
-      let first : State = run (copiesOnce P) (fresh 474) (restoring ∷ handOver ∷ []) in
-      let lit : State = step (copiesOnce P) first switchOn in
-      let after = d 474 (lit≤ tt) (restoring ∷ handOver ∷ switchOn ∷ handOver ∷ []) (lit< tt) in
-      let g : eqb (first .copy .generation) 0 ≡ false = ap (λ (x : ℕ). eqb x 0) (first-generation file tables 1 block tables 0) in
-      stale (step (copiesOnce P) lit handOver .copy .block) (step (copiesOnce P) lit handOver .copy .tables) (set file 0x08F 1) tables
-      (once-block lit g ∙ first-block file tables 1 block tables 0 ∙ packed-off file refl)
-      (ap length (once-tables lit g ∙ first-tables file tables 1 block tables 0))
-      refl
-      (after .shades refl fragment answer refl refl)
+-- the first hand-over copies a block of zeros, after a restore of zeros; the second, once lighting is on, copies nothing
+once-refuted : Demand3 copiesOnce → ⊥
+unfolding Demand3 EndsHandedOver HandsOver run step fresh restoreIf last fileRefusal tablesRefusal savedRefusal blockRefusal copyingOnce plainRun plainStep zeros accepts does plainWrite isData lightingOn handOver switchOn restoring fragment answer
+once-refuted d =
+    let file : List ℕ = replicate 474 0 in
+    let tables : List ℕ = replicate 12288 0 in
+    let block : List ℕ = replicate 328 0 in
+    let first : State = run copiesOnce (fresh 474) (restoring ∷ handOver ∷ []) in
+    let lit : State = step copiesOnce first switchOn in
+    let after = d 474 (lit≤ tt) (restoring ∷ handOver ∷ switchOn ∷ handOver ∷ []) (lit< tt) in
+    let g : eqb (first .copy .generation) 0 ≡ false = ap (λ (x : ℕ). eqb x 0) (first-generation file tables 1 block tables 0) in
+    stale (step copiesOnce lit handOver .copy .block) (step copiesOnce lit handOver .copy .tables) (set file 0x08F 1) tables
+    (once-block lit g ∙ first-block file tables 1 block tables 0 ∙ packed-off file refl)
+    (ap length (once-tables lit g ∙ first-tables file tables 1 block tables 0))
+    refl
+    (after .shades refl fragment answer refl refl)
 
 -- a list that leaves the lighting off
-paints-refuted : (P : Parts) (colours : List ℕ) → Demand3 P (paintsOne colours) → ⊥
+paints-refuted : (colours : List ℕ) → Demand3 (paintsOne colours) → ⊥
 unfolding Demand3 EndsHandedOver HandsOver plainRun plainStep zeros accepts does lightingOn handOver fragment answer
-paints-refuted P colours d =
+paints-refuted colours d =
     let after = d 474 (lit≤ tt) (handOver ∷ []) (lit< tt) in
     let e = after .shades refl fragment answer refl refl in
-    omega (arith, ap (λ (s : Shaded). s .number) e ∙ shade-off P (replicate 474 0) (replicate 12288 0) fragment answer refl)
-
--- ---- with the real block shading: the four that document 01 names
-refusing-every-write-fails : Demand3 parts (refusesWrites parts) → ⊥
-refusing-every-write-fails = refuses-refuted parts laws
-
-painting-one-colour-fails : (colours : List ℕ) → Demand3 parts (paintsOne colours) → ⊥
-painting-one-colour-fails = paints-refuted parts
-
-copying-nothing-fails : Demand3 parts (copiesNothing parts) → ⊥
-copying-nothing-fails = nothing-refuted parts laws
-
-copying-once-fails : Demand3 parts (copiesOnce parts) → ⊥
-copying-once-fails = once-refuted parts laws
+    omega (arith, ap (λ (s : Shaded). s .number) e ∙ shade-off (replicate 474 0) (replicate 12288 0) fragment answer refl)

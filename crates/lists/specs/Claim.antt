@@ -2,10 +2,11 @@
 use Prim.Native.Nat.{ℕ, _+_, _≤_, _<_}
 use mathlib.Core.Path.{_≡_}
 use mathlib.Core.List.{List, [], _∷_}
-use mathlib.Core.Bool.{true}
+use mathlib.Core.Bool.{true, cond}
 use lib.ListN.{length}
 use lib.Dec.{eqb}
-use Rattle.lists.specs.Parts.{Parts, shadeFrom}
+use Rattle.decoding.specs.Decode.{decoded}
+use Rattle.block_shading.specs.BlockShading.{Shaded, shaded, eightOf}
 use Rattle.lists.specs.States.{CopyState, State, fresh, Implementation}
 use Rattle.lists.specs.Calls.{Call, run, answer}
 use Rattle.lists.specs.Calls.Call.{Write, Restore, Read, HandOver}
@@ -24,13 +25,18 @@ EndsHandedOver n [] = ⊥
 EndsHandedOver n (c ∷ []) = HandsOver n c
 EndsHandedOver n (c ∷ d ∷ cs) = EndsHandedOver n (d ∷ cs)
 
-module _ (P : Parts) (I : Implementation) where
-  -- "block shading takes the copy's block and tables, 23 words of any bits and an answer of 8 words. It returns 100 and leaves the answer
-  -- untouched exactly when the machine's registers decode as off; else it returns 0, and the answer is the eight k, in printed order, that the
-  -- definition gives from the machine's registers and entries."
+-- "It returns 100 and leaves the answer untouched exactly when the machine's registers decode as off; else it returns 0, and the answer is the
+-- eight k, in printed order, that the definition gives from the machine's registers and entries."
+unfoldable pub shadeFrom : List ℕ → List ℕ → List ℕ → List ℕ → Shaded
+shadeFrom registers entries fragment answer =
+    let d = decoded registers in
+    cond (d .on) (shaded 0 (eightOf (d .lighting) entries fragment)) (shaded 100 answer)
+
+module _ (I : Implementation) where
+  -- "block shading takes the copy's block and tables, 23 words of any bits and an answer of 8 words"
   abbrev pub ShadesAs : CopyState → Machine → Type 0
   ShadesAs c m =
-      (fragment answer : List ℕ) → length fragment ≡ 23 → length answer ≡ 8 → I .blockShading (c .block) (c .tables) fragment answer ≡ shadeFrom P (m .registers) (m .entries) fragment answer
+      (fragment answer : List ℕ) → length fragment ≡ 23 → length answer ≡ 8 → I .blockShading (c .block) (c .tables) fragment answer ≡ shadeFrom (m .registers) (m .entries) fragment answer
 
   -- after a list, on a unit whose file has n words
   pub record After (n : ℕ) (calls : List Call) (s : State) : Type 0 where

@@ -1,62 +1,124 @@
--- Demand 3 holds. Block shading of a decoded file's block answers as the definition does from the file: the block is accepted and reads back
--- as the lighting that was decoded; the rest is the induction over the list. Assumes nothing.
-use Prim.Native.Nat.{ℕ}
-use mathlib.Core.Path.{_≡_, refl, _∙_, sym}
-use mathlib.Core.List.{List}
-use mathlib.Core.Bool.{Bool, true, false, cond, not, _&&_, _||_}
-use lib.ListN.{length, replicate}
-use lib.Dec.{eqb}
-use Rattle.refusals.specs.Lengths.{blockRefusal, tablesRefusal, fragmentRefusal, answerRefusal}
-use Rattle.lighting.specs.declared.OptionalLighting.{OptionalLighting}
-use Rattle.decoding.specs.Decode.{decoded}
-use Rattle.block.specs.Words.{packed}
-use Rattle.block.specs.Formed.{words, zeros, every, allZero, wellFormed}
-use Rattle.block.specs.Reading.{readingOf}
-use Rattle.block.specs.Answers.{accepted, inRange, packedReading, wordsRefusal}
-use Rattle.unit.specs.HandOver.{packable}
-use Rattle.unit.specs.DecodedLaws.{decoded-packable, decoded-reads, packed-length}
-use Rattle.block_shading.specs.BlockShading.{shaded, shadedBy, blockShadingRefusal, blockShadingIf, blockShading}
-use Rattle.lists.specs.Parts.{Laws, shadeFrom}
-use Rattle.lists.specs.ClaimLaws.{demand3, answered}
-use Rattle.lists.specs.Demand3.{parts, EveryListShadesAlike, EveryAnswerIsTheMachines}
+-- Demand 3 holds of our implementation, by induction over the list with a lemma for each kind of call: after an accepted hand-over the copy has the
+-- block of the machine's registers and the machine's entries. Assumes nothing.
+use Prim.Native.Nat.{ℕ, zero, suc, _+_, _≤_, _<_}
+use native.Mathlib.Omega.{arith}
+use native.Mathlib.Nat.{add-zero, add-suc, suc-add}
+use mathlib.Core.Path.{_≡_, refl, sym, ap, _∙_}
+use mathlib.Core.List.{List, [], _∷_}
+use mathlib.Core.Bool.{Bool, true, false, cond}
+use lib.ListN.{length}
+use lib.Dec.{ltb, leb, eqb}
+use Rattle.refusals.specs.Lengths.{fileRefusal, tablesRefusal, registerRefusal, savedRefusal, blockRefusal, _else_}
+use Rattle.lists.specs.Ours.{ours}
+use Rattle.lists.specs.States.{State, fresh}
+use Rattle.lists.specs.Calls.{Call, step, run, answer}
+use Rattle.lists.specs.Calls.Call.{Write, Restore, Read, HandOver}
+use Rattle.lists.specs.Plain.{accepts, Machine, zeros, plainStep, plainRun, plain}
+use Rattle.lists.specs.Claim.{HandsOver, EndsHandedOver, Demand3, Answered, Answers}
+use Rattle.lists.specs.Invariant.{Inv, Shows}
+use Rattle.lists.specs.InvariantLaws.{fresh-holds}
+use Rattle.lists.specs.ShadesLaws.{block-shades}
+use Rattle.lists.specs.WriteCallLaws.{writes, accepts-write, write-answer}
+use Rattle.lists.specs.RestoreCallLaws.{restores, accepts-restore, restore-answer}
+use Rattle.lists.specs.ReadCallLaws.{reads, accepts-read, read-answer}
+use Rattle.lists.specs.HandOverCallLaws.{hand-overs, accepts-hand-over, hand-over-answer}
 
-zero-block : allZero (words (replicate 328 0)) ≡ true
-unfolding allZero zeros every
-zero-block = refl
+module _ (n : ℕ) where
+  -- one call
+  module _ {k : ℕ} {s : State} {m : Machine} (i : Inv n k s m) (few : k < 0xFFFFFFFFFFFFFFFF) where
+    steps : (c : Call) → Inv n (suc k) (step ours s c) (plainStep n m c)
+    steps (Write f t r v) = writes i few f t r v
+    steps (Restore t saved) = restores i few t saved
+    steps (Read f) = reads i f
+    steps (HandOver f t ct b) = hand-overs i f t ct b .0
 
-right : (a b : Bool) → (a && b) ≡ true → b ≡ true
-right true b e = e
-right false true e = refl
-right false false e = e
+    shows : (c : Call) → HandsOver n c → Shows (step ours s c .copy) (plainStep n m c)
+    unfolding HandsOver
+    shows (Write f t r v) e = absurd e
+    shows (Restore t saved) e = absurd e
+    shows (Read f) e = absurd e
+    shows (HandOver f t ct b) e = hand-overs i f t ct b .1 e
 
-or-true : (a b : Bool) → b ≡ true → (a || b) ≡ true
-or-true true b e = refl
-or-true false b e = e
+  -- every list
+  runs : (cs : List Call) {k : ℕ} {s : State} {m : Machine} → Inv n k s m → k + length cs < 0x10000000000000000 → Inv n (k + length cs) (run ours s cs) (plainRun n m cs)
+  unfolding run plainRun
+  runs [] {k} i few = rw (add-zero k) i
+  runs (c ∷ cs) {k} i few =
+      rw (add-suc k (length cs), ← (suc-add k (length cs))) (runs cs (steps i (omega arith) c) (omega arith))
 
--- a packable lighting's block is not refused
-packed-passes : (d : OptionalLighting) → packable d ≡ true → wordsRefusal (words (packedReading d)) ≡ 0
-unfolding packable packedReading wordsRefusal accepted
-packed-passes d h = go (d .on) h
+  ends : (cs : List Call) {k : ℕ} {s : State} {m : Machine} → Inv n k s m → k + length cs < 0x10000000000000000 → EndsHandedOver n cs → Shows (run ours s cs .copy) (plainRun n m cs)
+  unfolding run plainRun EndsHandedOver
+  ends [] i few e = absurd e
+  ends (c ∷ []) i few e = shows i (omega arith) c e
+  ends (c ∷ d ∷ cs) i few e = ends (d ∷ cs) (steps i (omega arith) c) (omega arith) e
+
+pub every-list-shades-alike : Demand3 ours
+unfolding Demand3
+every-list-shades-alike n big calls few =
+    record {
+      same = after .agree;
+      shades =
+          λ end fragment answer hf ha.
+          let h = ends n calls (fresh-holds n big) (omega arith) end in
+          rw (h .block, h .tables)
+          (block-shades (plain n calls .registers) (plain n calls .entries) fragment answer (ap length (sym (after .unit .entries)) ∙ after .unit .tablesLength) hf ha);
+    }
   where
-    go : (b : Bool) → (not b || (inRange (d .lighting) && wellFormed (words (packed (d .lighting))))) ≡ true
-        → _≡_ {A = ℕ} (cond (allZero (words (cond b (packed (d .lighting)) (replicate 328 0))) || wellFormed (words (cond b (packed (d .lighting)) (replicate 328 0)))) 0 7) 0
-    go true e = rw (or-true (allZero (words (packed (d .lighting)))) (wellFormed (words (packed (d .lighting)))) (right (inRange (d .lighting)) _ e)) refl
-    go false e = rw zero-block refl
+    after : Inv n (0 + length calls) (run ours (fresh n) calls) (plain n calls)
+    after = runs n calls (fresh-holds n big) (omega arith)
 
-passes : (r e q a : List ℕ) → length e ≡ 12288 → length q ≡ 23 → length a ≡ 8 → blockShadingRefusal (packedReading (decoded r)) e q a ≡ 0
-unfolding blockShadingRefusal blockRefusal tablesRefusal fragmentRefusal answerRefusal
-passes r e q a he hq ha =
-    rw (packed-length (decoded r), he, hq, ha, packed-passes (decoded r) (decoded-packable r)) refl
+-- a refusal by a length or a register is neither 4 nor 7
+abbrev Neither : ℕ → Type 0
+Neither q = (q ≡ 4 → ⊥) × (q ≡ 7 → ⊥)
 
-shades : (r e q a : List ℕ) → length e ≡ 12288 → length q ≡ 23 → length a ≡ 8 → blockShading (packedReading (decoded r)) e q a ≡ shadeFrom parts r e q a
-unfolding blockShading blockShadingIf shadedBy shadeFrom
-shades r e q a he hq ha = rw (passes r e q a he hq ha, decoded-reads r) refl
+neither-test : (b : Bool) (k : ℕ) → Neither k → Neither (cond b 0 k)
+neither-test true k h = (λ e. omega arith, λ e. omega arith)
+neither-test false k h = h
 
-pub laws : Laws parts
-laws = record { shades = shades }
+neither-else : (a b : ℕ) → Neither a → Neither b → Neither (a else b)
+neither-else zero b p q = q
+neither-else (suc a) b p q = p
 
-pub every-list-shades-alike : EveryListShadesAlike
-every-list-shades-alike = demand3 parts laws
+neither-file : (n : ℕ) → Neither (fileRefusal n)
+unfolding fileRefusal
+neither-file n = neither-test (leb 474 n) 1 (λ e. omega arith, λ e. omega arith)
 
-pub every-answer-is-the-machines : EveryAnswerIsTheMachines
-every-answer-is-the-machines = answered parts
+neither-tables : (n : ℕ) → Neither (tablesRefusal n)
+unfolding tablesRefusal
+neither-tables n = neither-test (eqb n 12288) 2 (λ e. omega arith, λ e. omega arith)
+
+neither-register : (n : ℕ) → Neither (registerRefusal n)
+unfolding registerRefusal
+neither-register n = neither-test (ltb n 474) 3 (λ e. omega arith, λ e. omega arith)
+
+neither-saved : (n : ℕ) → Neither (savedRefusal n)
+unfolding savedRefusal
+neither-saved n = neither-test (eqb n 12288) 5 (λ e. omega arith, λ e. omega arith)
+
+neither-block : (n : ℕ) → Neither (blockRefusal n)
+unfolding blockRefusal
+neither-block n = neither-test (eqb n 328) 6 (λ e. omega arith, λ e. omega arith)
+
+-- a call that answers with such a refusal
+by-refusal : (n : ℕ) (c : Call) (number q : ℕ) → number ≡ q → eqb q 0 ≡ accepts n c → Neither q → Answered n c number
+by-refusal n c number q e a h =
+    record { accepted = ap (λ (x : ℕ). eqb x 0) e ∙ a; not-4 = λ p. h .0 (sym e ∙ p); not-7 = λ p. h .1 (sym e ∙ p) }
+
+module _ {n k : ℕ} {s : State} {m : Machine} (i : Inv n k s m) (few : k < 0xFFFFFFFFFFFFFFFF) where
+  answers : (c : Call) → Answered n c (answer ours s c)
+  answers (Write f t r v) =
+      by-refusal n (Write f t r v) _ _ (write-answer i few f t r v) (accepts-write i few f t r v)
+      (neither-else (fileRefusal _) _ (neither-file _) (neither-else (tablesRefusal _) _ (neither-tables _) (neither-register r)))
+  answers (Restore t saved) =
+      by-refusal n (Restore t saved) _ _ (restore-answer i few t saved) (accepts-restore i few t saved)
+      (neither-else (tablesRefusal _) _ (neither-tables _) (neither-saved (length saved)))
+  answers (Read f) =
+      by-refusal n (Read f) _ _ (read-answer i f) (accepts-read i f) (neither-file _)
+  answers (HandOver f t ct b) =
+      by-refusal n (HandOver f t ct b) _ _ (hand-over-answer i f t ct b) (accepts-hand-over i f t ct b)
+      (neither-else (fileRefusal _) _ (neither-file _) (neither-else (tablesRefusal _) _ (neither-tables _) (neither-else (tablesRefusal _) _ (neither-tables _) (neither-block _))))
+
+pub every-answer-is-the-machines : Answers ours
+unfolding Answers
+every-answer-is-the-machines n big calls c few =
+    answers (runs n calls (fresh-holds n big) (omega arith)) (omega arith) c

@@ -15,7 +15,6 @@ use Rattle.unit.specs.CachedRead.{refreshed}
 use Rattle.unit.specs.HandOver.{Handed, handed, handOverRefusal, packable, taken, handOverRead, handOverIf}
 use Rattle.unit.specs.HandOverLaws.{hand-over-lengths, hand-over-test}
 use Rattle.unit.specs.DecodedLaws.{decoded-packable, packed-length}
-use Rattle.lists.specs.Parts.{Parts}
 use Rattle.lists.specs.Ours.{ours}
 use Rattle.lists.specs.States.{State, unitState, copyState, state}
 use Rattle.lists.specs.Calls.{Lent, ShortFile, NotTables, NotBlock, lent, left, step, answer}
@@ -36,10 +35,10 @@ taken-number c t g ct cg = go (eqb g cg)
     go true = refl
     go false = refl
 
-module _ (P : Parts) {n k : ℕ} {s : State} {m : Machine} (i : Inv n k s m) where
+module _ {n k : ℕ} {s : State} {m : Machine} (i : Inv n k s m) where
   -- 7 is not met
   packs : packable (refreshed (s .unit .file) (s .unit .cache) .decoded) ≡ true
-  packs = rw (decodes P i) (decoded-packable (m .registers))
+  packs = rw (decodes i) (decoded-packable (m .registers))
 
   -- the copy's tables and generation after a hand-over are the unit's
   takes : (c : Cache) → taken c (s .unit .tables) (s .unit .generation) (s .copy .tables) (s .copy .generation) ≡ handed 0 c (packedReading (c .decoded)) (s .unit .tables) (s .unit .generation)
@@ -68,18 +67,18 @@ module _ (P : Parts) {n k : ℕ} {s : State} {m : Machine} (i : Inv n k s m) whe
   done : Inv n (suc k) (handedTo own own (handed 0 (refreshed (s .unit .file) (s .unit .cache)) (packedReading (refreshed (s .unit .file) (s .unit .cache) .decoded)) (s .unit .tables) (s .unit .generation))) m
   done =
       record {
-        unit = reads-own P i .unit;
+        unit = reads-own i .unit;
         blockLength = packed-length (refreshed (s .unit .file) (s .unit .cache) .decoded);
         copyLength = i .unit .tablesLength;
         behind = le-refl _;
-        count = reads-own P i .count;
+        count = reads-own i .count;
         agree = λ _. refl;
       }
 
-  pub hand-overs : (f : Lent ShortFile) (t ct : Lent NotTables) (b : Lent NotBlock) → Inv n (suc k) (step (ours P) s (HandOver f t ct b)) (plainStep n m (HandOver f t ct b)) × (accepts n (HandOver f t ct b) ≡ true → Shows (step (ours P) s (HandOver f t ct b) .copy) (plainStep n m (HandOver f t ct b)))
+  pub hand-overs : (f : Lent ShortFile) (t ct : Lent NotTables) (b : Lent NotBlock) → Inv n (suc k) (step ours s (HandOver f t ct b)) (plainStep n m (HandOver f t ct b)) × (accepts n (HandOver f t ct b) ≡ true → Shows (step ours s (HandOver f t ct b) .copy) (plainStep n m (HandOver f t ct b)))
   unfolding step plainStep does handOverIf handOverRead
   hand-overs f t ct b =
-      subst (λ (x : Bool). Inv n (suc k) (step (ours P) s (HandOver f t ct b)) (cond x m m) × (x ≡ true → Shows (step (ours P) s (HandOver f t ct b) .copy) (cond x m m))) (accepts-hand-over f t ct b)
+      subst (λ (x : Bool). Inv n (suc k) (step ours s (HandOver f t ct b)) (cond x m m) × (x ≡ true → Shows (step ours s (HandOver f t ct b) .copy) (cond x m m))) (accepts-hand-over f t ct b)
       (go (handOverRefusal (length (lent (s .unit .file) f)) (length (lent (s .unit .tables) t)) (length (lent (s .copy .tables) ct)) (length (lent (s .copy .block) b))) refl)
     where
       after : ℕ → State
@@ -95,10 +94,10 @@ module _ (P : Parts) {n k : ℕ} {s : State} {m : Machine} (i : Inv n k s m) whe
           let te : t ≡ own = is-own (s .unit .tables) t (λ p. p (lengths .1)) in
           let ce : ct ≡ own = is-own (s .copy .tables) ct (λ p. p (lengths .2)) in
           let be : b ≡ own = is-own (s .copy .block) b (λ p. p (lengths .3)) in
-          rw (fe, te, ce, be, packs, takes (refreshed (s .unit .file) (s .unit .cache))) (done, λ _. record { block = ap packedReading (decodes P i); tables = i .unit .entries })
+          rw (fe, te, ce, be, packs, takes (refreshed (s .unit .file) (s .unit .cache))) (done, λ _. record { block = ap packedReading (decodes i); tables = i .unit .entries })
 
   -- what a hand-over answers
-  pub hand-over-answer : (f : Lent ShortFile) (t ct : Lent NotTables) (b : Lent NotBlock) → answer (ours P) s (HandOver f t ct b) ≡ handOverRefusal (length (lent (s .unit .file) f)) (length (lent (s .unit .tables) t)) (length (lent (s .copy .tables) ct)) (length (lent (s .copy .block) b))
+  pub hand-over-answer : (f : Lent ShortFile) (t ct : Lent NotTables) (b : Lent NotBlock) → answer ours s (HandOver f t ct b) ≡ handOverRefusal (length (lent (s .unit .file) f)) (length (lent (s .unit .tables) t)) (length (lent (s .copy .tables) ct)) (length (lent (s .copy .block) b))
   unfolding answer handOverIf handOverRead
   hand-over-answer f t ct b =
       go (handOverRefusal (length (lent (s .unit .file) f)) (length (lent (s .unit .tables) t)) (length (lent (s .copy .tables) ct)) (length (lent (s .copy .block) b))) refl

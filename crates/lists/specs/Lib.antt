@@ -1,9 +1,9 @@
-pub mod Parts
 pub mod States
 pub mod Calls
 pub mod Plain
 pub mod Claim
 pub mod Ours
+pub mod Wrong
 pub mod LentLaws
 pub mod Invariant
 pub mod InvariantLaws
@@ -11,7 +11,5 @@ pub mod WriteCallLaws
 pub mod RestoreCallLaws
 pub mod ReadCallLaws
 pub mod HandOverCallLaws
-pub mod ClaimLaws
-pub mod Wrong
-pub mod Demand3
+pub mod ShadesLaws
 pub mod Demand3Laws

@@ -19,7 +19,6 @@ use Rattle.unit.specs.declared.Cache.{Cache}
 use Rattle.unit.specs.Comparing.{sameWords}
 use Rattle.unit.specs.ComparingLaws.{same-equal}
 use Rattle.unit.specs.CachedRead.{current, readAnew, refreshed, cachedReadIf}
-use Rattle.lists.specs.Parts.{Parts}
 use Rattle.lists.specs.Ours.{ours}
 use Rattle.lists.specs.States.{State, unitState, state}
 use Rattle.lists.specs.Calls.{Lent, ShortFile, lent, step, answer}
@@ -65,7 +64,7 @@ read-sound f c g = go (c .filled && sameWords (c .kept) (keptWords f)) refl
         (sym (g (both .0) f (sym (same-equal (c .kept) (keptWords f) (both .1)))), g)
     go false e = (refl, λ _ r p. decoded-same r f p)
 
-module _ (P : Parts) {n k : ℕ} {s : State} {m : Machine} (i : Inv n k s m) where
+module _ {n k : ℕ} {s : State} {m : Machine} (i : Inv n k s m) where
   -- the file's lighting is the machine's
   pub decodes : refreshed (s .unit .file) (s .unit .cache) .decoded ≡ decoded (m .registers)
   decodes =
@@ -97,10 +96,10 @@ module _ (P : Parts) {n k : ℕ} {s : State} {m : Machine} (i : Inv n k s m) whe
       })
       (inl (refl, refl))
 
-  pub reads : (f : Lent ShortFile) → Inv n (suc k) (step (ours P) s (Read f)) (plainStep n m (Read f))
+  pub reads : (f : Lent ShortFile) → Inv n (suc k) (step ours s (Read f)) (plainStep n m (Read f))
   unfolding step plainStep does cachedReadIf
   reads f =
-      subst (λ (b : Bool). Inv n (suc k) (step (ours P) s (Read f)) (cond b m m)) (accepts-read f)
+      subst (λ (b : Bool). Inv n (suc k) (step ours s (Read f)) (cond b m m)) (accepts-read f)
       (go (fileRefusal (length (lent (s .unit .file) f))) refl)
     where
       go : (q : ℕ) → fileRefusal (length (lent (s .unit .file) f)) ≡ q → Inv n (suc k) (cachedWith (cachedReadIf q (lent (s .unit .file) f) (s .unit .cache) .cache)) (cond (eqb q 0) m m)
@@ -110,7 +109,7 @@ module _ (P : Parts) {n k : ℕ} {s : State} {m : Machine} (i : Inv n k s m) whe
           rw fe reads-own
 
   -- what a cached read answers
-  pub read-answer : (f : Lent ShortFile) → answer (ours P) s (Read f) ≡ fileRefusal (length (lent (s .unit .file) f))
+  pub read-answer : (f : Lent ShortFile) → answer ours s (Read f) ≡ fileRefusal (length (lent (s .unit .file) f))
   unfolding answer cachedReadIf
   read-answer f = go (fileRefusal (length (lent (s .unit .file) f)))
     where

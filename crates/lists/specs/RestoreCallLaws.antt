@@ -10,7 +10,6 @@ use lib.Dec.{eqb, eqb·suc-zero}
 use Rattle.tables.specs.Restore.{Restored, restoreRefusal, restoreIf}
 use Rattle.tables.specs.RestoreLaws.{restore-number}
 use Rattle.tables.specs.RefusalLaws.{restore-lengths, restore-test}
-use Rattle.lists.specs.Parts.{Parts}
 use Rattle.lists.specs.Ours.{ours}
 use Rattle.lists.specs.States.{State, unitState, state}
 use Rattle.lists.specs.Calls.{Lent, NotTables, lent, left, step, answer}
@@ -21,7 +20,7 @@ use Rattle.lists.specs.LentLaws.{size-lent, left-lent, is-own}
 use Rattle.lists.specs.Invariant.{Inv}
 use Rattle.lists.specs.InvariantLaws.{stays, moves, not-last}
 
-module _ (P : Parts) {n k : ℕ} {s : State} {m : Machine} (i : Inv n k s m) (few : k < 0xFFFFFFFFFFFFFFFF) where
+module _ {n k : ℕ} {s : State} {m : Machine} (i : Inv n k s m) (few : k < 0xFFFFFFFFFFFFFFFF) where
   -- unit and copy after a restore
   abbrev restoredTo : Lent NotTables → Restored → State
   restoredTo t w =
@@ -34,10 +33,10 @@ module _ (P : Parts) {n k : ℕ} {s : State} {m : Machine} (i : Inv n k s m) (fe
       restore-test (length (lent (s .unit .tables) t)) saved
       ∙ ap (λ (a : ℕ). eqb a 12288 && eqb (length saved) 12288) (size-lent (s .unit .tables) t (i .unit .tablesLength))
 
-  pub restores : (t : Lent NotTables) (saved : List ℕ) → Inv n (suc k) (step (ours P) s (Restore t saved)) (plainStep n m (Restore t saved))
+  pub restores : (t : Lent NotTables) (saved : List ℕ) → Inv n (suc k) (step ours s (Restore t saved)) (plainStep n m (Restore t saved))
   unfolding step plainStep does restoreIf
   restores t saved =
-      subst (λ (b : Bool). Inv n (suc k) (step (ours P) s (Restore t saved)) (cond b (machine (m .registers) saved) m)) (accepts-restore t saved)
+      subst (λ (b : Bool). Inv n (suc k) (step ours s (Restore t saved)) (cond b (machine (m .registers) saved) m)) (accepts-restore t saved)
       (go (restoreRefusal (length (lent (s .unit .tables) t)) saved) refl)
     where
       go : (q : ℕ) → restoreRefusal (length (lent (s .unit .tables) t)) saved ≡ q → Inv n (suc k) (restoredTo t (restoreIf q (lent (s .unit .tables) t) (s .unit .generation) saved)) (cond (eqb q 0) (machine (m .registers) saved) m)
@@ -57,7 +56,7 @@ module _ (P : Parts) {n k : ℕ} {s : State} {m : Machine} (i : Inv n k s m) (fe
           (inr refl))
 
   -- what a restore answers
-  pub restore-answer : (t : Lent NotTables) (saved : List ℕ) → answer (ours P) s (Restore t saved) ≡ restoreRefusal (length (lent (s .unit .tables) t)) saved
+  pub restore-answer : (t : Lent NotTables) (saved : List ℕ) → answer ours s (Restore t saved) ≡ restoreRefusal (length (lent (s .unit .tables) t)) saved
   unfolding answer
   restore-answer t saved =
       restore-number (lent (s .unit .tables) t) (s .unit .generation) saved (not-last i few)

@@ -15,7 +15,6 @@ use Rattle.tables.specs.Generation.{raised}
 use Rattle.tables.specs.Write.{Wrote, wrote, writeRefusal, writeIf, write}
 use Rattle.tables.specs.WriteLaws.{write-data, write-register, write-number}
 use Rattle.tables.specs.RefusalLaws.{write-lengths, write-test}
-use Rattle.lists.specs.Parts.{Parts}
 use Rattle.lists.specs.Ours.{ours}
 use Rattle.lists.specs.States.{UnitState, State, unitState, state}
 use Rattle.lists.specs.Calls.{Call, Lent, ShortFile, NotTables, lent, left, step, answer}
@@ -26,7 +25,7 @@ use Rattle.lists.specs.LentLaws.{size-lent, left-lent, is-own}
 use Rattle.lists.specs.Invariant.{Rises, Matches, Inv}
 use Rattle.lists.specs.InvariantLaws.{stays, moves, not-last}
 
-module _ (P : Parts) {n k : ℕ} {s : State} {m : Machine} (i : Inv n k s m) (few : k < 0xFFFFFFFFFFFFFFFF) where
+module _ {n k : ℕ} {s : State} {m : Machine} (i : Inv n k s m) (few : k < 0xFFFFFFFFFFFFFFFF) where
   -- the word of 1C5 is the machine's
   same-index : index (s .unit .file) ≡ index (m .registers)
   same-index =
@@ -83,10 +82,10 @@ module _ (P : Parts) {n k : ℕ} {s : State} {m : Machine} (i : Inv n k s m) (fe
           (stores (s .unit .tables) (m .entries) (s .unit .generation) r v (i .unit .entries) (i .unit .tablesLength) (write-lengths (length (s .unit .file)) (length (s .unit .tables)) r e .2))
           (inl (refl, refl)))
 
-  pub writes : (f : Lent ShortFile) (t : Lent NotTables) (r v : ℕ) → Inv n (suc k) (step (ours P) s (Write f t r v)) (plainStep n m (Write f t r v))
+  pub writes : (f : Lent ShortFile) (t : Lent NotTables) (r v : ℕ) → Inv n (suc k) (step ours s (Write f t r v)) (plainStep n m (Write f t r v))
   unfolding step plainStep does writeIf
   writes f t r v =
-      subst (λ (b : Bool). Inv n (suc k) (step (ours P) s (Write f t r v)) (cond b (plainWrite m r v) m)) (accepts-write f t r v)
+      subst (λ (b : Bool). Inv n (suc k) (step ours s (Write f t r v)) (cond b (plainWrite m r v) m)) (accepts-write f t r v)
       (go (writeRefusal (length (lent (s .unit .file) f)) (length (lent (s .unit .tables) t)) r) refl)
     where
       go : (q : ℕ) → writeRefusal (length (lent (s .unit .file) f)) (length (lent (s .unit .tables) t)) r ≡ q → Inv n (suc k) (written f t (writeIf q (lent (s .unit .file) f) (lent (s .unit .tables) t) (s .unit .generation) r v)) (cond (eqb q 0) (plainWrite m r v) m)
@@ -99,7 +98,7 @@ module _ (P : Parts) {n k : ℕ} {s : State} {m : Machine} (i : Inv n k s m) (fe
           rw (fe, te) (rw e′ at (done r v e′))
 
   -- what a write answers
-  pub write-answer : (f : Lent ShortFile) (t : Lent NotTables) (r v : ℕ) → answer (ours P) s (Write f t r v) ≡ writeRefusal (length (lent (s .unit .file) f)) (length (lent (s .unit .tables) t)) r
+  pub write-answer : (f : Lent ShortFile) (t : Lent NotTables) (r v : ℕ) → answer ours s (Write f t r v) ≡ writeRefusal (length (lent (s .unit .file) f)) (length (lent (s .unit .tables) t)) r
   unfolding answer
   write-answer f t r v =
       write-number (lent (s .unit .file) f) (lent (s .unit .tables) t) (s .unit .generation) r v (not-last i few)

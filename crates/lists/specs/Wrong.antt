@@ -8,19 +8,18 @@ use Rattle.tables.specs.Restore.{restore}
 use Rattle.unit.specs.declared.Cache.{Cache}
 use Rattle.unit.specs.CachedRead.{cachedRead}
 use Rattle.unit.specs.HandOver.{Handed, handed, handOver}
-use Rattle.block_shading.specs.BlockShading.{shaded}
-use Rattle.lists.specs.Parts.{Parts}
+use Rattle.block_shading.specs.BlockShading.{shaded, blockShading}
 use Rattle.lists.specs.States.{Implementation}
 
 -- "A unit that refuses every write"
-abbrev pub refusesWrites : Parts → Implementation
-refusesWrites P =
+abbrev pub refusesWrites : Implementation
+refusesWrites =
     record {
       write = λ f t g r v. wrote 3 f t g;
       restore = restore;
       cachedRead = cachedRead;
       handOver = handOver;
-      blockShading = P .blockShading;
+      blockShading = blockShading;
     }
 
 -- "a shader painting one colour"
@@ -40,26 +39,26 @@ copyingNothing f t g c b ct cg =
     let w = handOver f t g c b ct cg in
     handed (w .number) (w .cache) b ct cg
 
-abbrev pub copiesNothing : Parts → Implementation
-copiesNothing P =
+abbrev pub copiesNothing : Implementation
+copiesNothing =
     record {
       write = write;
       restore = restore;
       cachedRead = cachedRead;
       handOver = copyingNothing;
-      blockShading = P .blockShading;
+      blockShading = blockShading;
     }
 
 -- "one that copies only the first time": while the copy's generation is 0
 unfoldable pub copyingOnce : List ℕ → List ℕ → ℕ → Cache → List ℕ → List ℕ → ℕ → Handed
 copyingOnce f t g c b ct cg = cond (eqb cg 0) (handOver f t g c b ct cg) (copyingNothing f t g c b ct cg)
 
-abbrev pub copiesOnce : Parts → Implementation
-copiesOnce P =
+abbrev pub copiesOnce : Implementation
+copiesOnce =
     record {
       write = write;
       restore = restore;
       cachedRead = cachedRead;
       handOver = copyingOnce;
-      blockShading = P .blockShading;
+      blockShading = blockShading;
     }
