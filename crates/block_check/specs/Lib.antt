@@ -1,0 +1,3 @@
+pub mod Parts
+pub mod PartsLaws
+pub mod FormLaws

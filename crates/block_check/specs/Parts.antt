@@ -1,0 +1,54 @@
+-- A well-formed block as the check takes it: the head, then each lit slot, and the floats last. Definitions only.
+use Prim.Native.Nat.{ℕ}
+use mathlib.Core.Bool.{Bool, cond, not, _&&_, _||_}
+use lib.Dec.{ltb, eqb}
+use Rattle.block.specs.Formed.{from, lookupAt, slotAt, every, bitAt, bumpFormed, shadowFormed, scaleFormed}
+
+-- the four words of a lookup
+unfoldable pub lookupFormed : (ℕ → ℕ) → Bool
+lookupFormed v =
+    cond (eqb (v 0) 0)
+    (eqb (v 1) 0 && eqb (v 2) 0 && eqb (v 3) 0)
+    (eqb (v 0) 1 && ltb (v 1) 8 && ltb (v 2) 2 && scaleFormed (v 3))
+
+-- the words before the lookups
+unfoldable pub settingsFormed : (ℕ → ℕ) → Bool
+settingsFormed w =
+    ltb (w 0) 16
+    && bumpFormed (w 2)
+    && shadowFormed (w 3)
+    && ltb (w 4) 2
+    && ltb (w 5) 2
+    && ltb (w 6) 2
+    && ltb (w 7) 4
+    && not (eqb (w 7) 1)
+
+-- the first n lookups
+unfoldable pub lookupsFormed : (ℕ → ℕ) → ℕ → Bool
+lookupsFormed w n = every n (λ k. lookupFormed (from w (lookupAt k)))
+
+-- the 40 words of a head but the count and the global ambient
+unfoldable pub headFormed : (ℕ → ℕ) → Bool
+headFormed w = settingsFormed w && lookupsFormed w 7 && eqb (w 32) 1 && eqb (w 39) 0
+
+-- the 36 words of a lit slot but its floats
+unfoldable pub lightFormed : (ℕ → ℕ) → Bool
+lightFormed v =
+    eqb (v 3) 0
+    && eqb (v 7) 0
+    && eqb (v 11) 0
+    && eqb (v 15) 0
+    && eqb (v 19) 0
+    && eqb (v 23) 0
+    && eqb (v 27) 0
+    && eqb (v 30) 0
+    && eqb (v 31) 0
+    && eqb (v 34) 0
+    && eqb (v 35) 0
+    && ltb (v 32) 128
+    && ltb (v 33) 8
+    && (bitAt (v 32) 16 || (eqb (v 28) 0 && eqb (v 29) 0))
+
+-- the first n slots
+unfoldable pub lightsFormed : (ℕ → ℕ) → ℕ → Bool
+lightsFormed w n = every n (λ s. lightFormed (from w (slotAt s)))
