@@ -1,0 +1,68 @@
+-- The answers of `read_block`, by the form that the check found. The form, the refusal and the reading are decided by the same four tests of
+-- the block. Assumes nothing.
+use Prim.Native.Nat.{ℕ}
+use mathlib.Core.Path.{_≡_, refl, sym, _∙_}
+use mathlib.Core.Bool.{Bool, true, false, cond, _||_}
+use mathlib.Core.List.{List}
+use lib.Dec.{eqb}
+use lib.ListN.{length}
+use borrow.Author.Tests.{eqb-true}
+use Rattle.refusals.specs.Lengths.{blockRefusal, _else_}
+use Rattle.lighting.specs.declared.Lighting.{Lighting}
+use Rattle.lighting.specs.declared.OptionalLighting.{OptionalLighting}
+use Rattle.lighting.specs.Blank.{blankLighting}
+use Rattle.block.specs.declared.BlockForm.{BlockForm}
+use Rattle.block.specs.declared.BlockForm.the-variants.{Off, NotWellFormed, NanFree, WithNan}
+use Rattle.block.specs.Formed.{words, allZero, wellFormed}
+use Rattle.block.specs.Reading.{lightingOf, off, on, readingOf}
+use Rattle.block.specs.Answers.{nanFree, formOf, blockForm, wordsRefusal, Read, read, readRefusal, reads}
+use Rattle.block.specs.TestLaws.{never}
+use Rattle.block_reading.specs.Answer.{formRefusal, isLit}
+
+-- the form, the refusal and the answer by the tests: of the right length, all zero, well formed, free of NaN
+
+abbrev formBy : Bool → Bool → Bool → Bool → BlockForm
+formBy sized zero formed free = cond sized (cond zero Off (cond formed (cond free NanFree WithNan) NotWellFormed)) NotWellFormed
+
+abbrev refusalBy : Bool → Bool → Bool → ℕ
+refusalBy sized zero formed = cond sized 0 6 else cond (zero || formed) 0 7
+
+abbrev readsBy : Bool → Bool → Bool → Lighting → Read
+readsBy sized zero formed l =
+    read (refusalBy sized zero formed) (cond (eqb (refusalBy sized zero formed) 0) (cond zero off (on l)) off)
+
+module _ (b : List ℕ) (f : BlockForm) (form : f ≡ blockForm b) (lit : Bool) (told : lit ≡ isLit f) where
+  pub lit-length : lit ≡ true → length b ≡ 328
+  unfolding isLit blockForm
+  lit-length h = go (eqb (length b) 328) refl (rw form at (sym told ∙ h))
+    where
+      go : (x : Bool) → eqb (length b) 328 ≡ x → isLit (cond x (formOf (words b)) NotWellFormed) ≡ true → length b ≡ 328
+      go true e k = eqb-true (length b) 328 e
+      go false e k = never k
+
+  module _ (number : ℕ) (refused : number ≡ formRefusal f (length b)) (l : Lighting) where
+    pub read-lit : lit ≡ true → l ≡ lightingOf (words b) → read number (on l) ≡ reads b
+    unfolding isLit formRefusal blockForm formOf reads readRefusal blockRefusal wordsRefusal readingOf
+    read-lit h p =
+        rw (refused, form, p) (go (eqb (length b) 328) (allZero (words b)) (wellFormed (words b)) (nanFree (words b)) refl (rw form at (sym told ∙ h)))
+      where
+        go : (x z g n : Bool) → eqb (length b) 328 ≡ x → isLit (formBy x z g n) ≡ true
+            → read (formRefusal (formBy x z g n) (length b)) (on (lightingOf (words b))) ≡ readsBy x z g (lightingOf (words b))
+        go true true g n e k = never k
+        go true false true true e k = refl
+        go true false true false e k = refl
+        go true false false n e k = never k
+        go false z g n e k = never k
+
+    pub read-dark : lit ≡ false → l ≡ blankLighting → read number (record { on = false; lighting = l }) ≡ reads b
+    unfolding isLit formRefusal blockForm formOf reads readRefusal blockRefusal wordsRefusal readingOf
+    read-dark h p =
+        rw (refused, form, p) (go (eqb (length b) 328) (allZero (words b)) (wellFormed (words b)) (nanFree (words b)) refl (rw form at (sym told ∙ h)))
+      where
+        go : (x z g n : Bool) → eqb (length b) 328 ≡ x → isLit (formBy x z g n) ≡ false
+            → read (formRefusal (formBy x z g n) (length b)) off ≡ readsBy x z g (lightingOf (words b))
+        go true true g n e k = refl
+        go true false true true e k = never (sym k)
+        go true false true false e k = never (sym k)
+        go true false false n e k = rw e refl
+        go false z g n e k = rw e refl

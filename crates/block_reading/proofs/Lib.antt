@@ -1,0 +1,3 @@
+mod Parts
+mod Lights
+mod Answers
