@@ -11,6 +11,7 @@ use Rattle.lighting.specs.declared.OptionalLookup.{OptionalLookup}
 use Rattle.lighting.specs.declared.Distance.{Distance}
 use Rattle.lighting.specs.declared.Bump.{Bump}
 use Rattle.lighting.specs.declared.OptionalShadow.{OptionalShadow}
+use Rattle.lighting.specs.declared.LightNumber.{LightNumber}
 use Rattle.lighting.specs.declared.Light.{Light}
 use Rattle.lighting.specs.declared.Lighting.{Lighting}
 use Rattle.block.specs.Formed.{from, bitAt}
@@ -24,7 +25,7 @@ pub vector-first : (w : ℕ → ℕ) (i : ℕ) → vectorOf w i ≡ vectorOf (fr
 unfolding vectorOf
 vector-first w i = rw (add-zero i) refl
 
-pub light-made : (v : ℕ → ℕ) (a b c d e f g : List Float) (h : Distance) → a ≡ vectorOf v 0
+pub light-made : (v : ℕ → ℕ) (a b c d e f g : List Float) (h : Distance) (n : LightNumber) → a ≡ vectorOf v 0
     → b ≡ vectorOf v 4
     → c ≡ vectorOf v 8
     → d ≡ vectorOf v 12
@@ -32,6 +33,7 @@ pub light-made : (v : ℕ → ℕ) (a b c d e f g : List Float) (h : Distance) �
     → f ≡ vectorOf v 20
     → g ≡ vectorOf v 24
     → h ≡ distanceOf v
+    → n ≡ record { 0 = v 33 }
     → _≡_ {A = Light} (record {
       specular0 = a;
       specular1 = b;
@@ -47,10 +49,10 @@ pub light-made : (v : ℕ → ℕ) (a b c d e f g : List Float) (h : Distance) �
       distance = h;
       spotlight = bitAt (v 32) 32;
       shadowed = bitAt (v 32) 64;
-      number = record { 0 = v 33 };
+      number = n;
     }) (lightOf v)
 unfolding lightOf
-light-made v a b c d e f g h p0 p1 p2 p3 p4 p5 p6 p7 = rw (p0, p1, p2, p3, p4, p5, p6, p7, div-one (v 32)) refl
+light-made v a b c d e f g h n p0 p1 p2 p3 p4 p5 p6 p7 p8 = rw (p0, p1, p2, p3, p4, p5, p6, p7, p8, div-one (v 32)) refl
 
 pub lighting-made : (w : ℕ → ℕ) (ls : List Light) (a : List Float) (d0 d1 f r g b : OptionalLookup) (s : Lookup) (m : Bump) (h : OptionalShadow)
     → ls ≡ lightsOf w

@@ -103,6 +103,12 @@ fn distance_of(block: &[u32], at: usize) -> Distance
     }
 }
 
+fn light_number(word: u32) -> LightNumber
+    ensures { λ r. ⌜ r ≡ record { 0 = word } ⌝ }
+{
+    LightNumber(word as usize)
+}
+
 // The light of the 36 words from `at` on.
 pub fn light_of(block: &[u32], at: usize) -> Light
     requires { ⌜ at + 36 ≤ length (now block) ⌝ }
@@ -124,7 +130,7 @@ pub fn light_of(block: &[u32], at: usize) -> Light
         distance: distance_of(block, at),
         spotlight: flags / 32 % 2 == 1,
         shadowed: flags / 64 % 2 == 1,
-        number: LightNumber(block[at + 33] as usize),
+        number: light_number(block[at + 33]),
     }
 }
 

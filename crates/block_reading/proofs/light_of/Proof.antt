@@ -1,6 +1,4 @@
--- `block_reading::light_of` meets its contract: each part is what the call that makes it ensures, and a word fits a light's number. Assumes nothing.
-use native.Mathlib.Omega.{arith}
-use Prim.Native.Nat.{_+_}
+-- `block_reading::light_of` meets its contract: each part is what the call that makes it ensures. Assumes nothing.
 use mathlib.Core.Path.{_∙_}
 use Rattle.block.specs.Formed.{words, from}
 use Rattle.block_reading.proofs.Parts.{vector-from, vector-first, light-made}
@@ -59,30 +57,31 @@ vector-of-requires-7 c κs = search needs
 distance-of-requires : tie.Need-distance-of-requires
 distance-of-requires c κs = search needs
 
-add-t36 : tie.Need-add-t36
-add-t36 c = search needs
+add-light-number : tie.Need-add-light-number
+add-light-number c = search needs
 
-mul-t37 : tie.Need-mul-t37
-mul-t37 c = search needs
+mul-light-number : tie.Need-mul-light-number
+mul-light-number c = search needs
 
-shared-slice-read-t39 : tie.Need-shared-slice-read-t39
-shared-slice-read-t39 c = search needs
+shared-slice-read-light-number : tie.Need-shared-slice-read-light-number
+shared-slice-read-light-number c = search needs
 
-cast-t40 : tie.Need-cast-t40
-cast-t40 c = omega (arith, c .shared-slice-known3 .given (c .before .before .before .before .before .before .before .before .before .before .before .args .at + 33))
+light-number-requires : tie.Need-light-number-requires
+light-number-requires c κs = search needs
 
 returns : tie.Need-returns
-returns c = let w = words (c .before .before .before .before .before .before .before .before .before .before .before .args .block .now) in
-    let at = c .before .before .before .before .before .before .before .before .before .before .before .args .at in
-    light-made (from w at) _ _ _ _ _ _ _ _
-    (c .before .before .before .before .before .before .before .before .vector-of .ensures ∙ vector-first w at)
-    (c .before .before .before .before .before .before .before .vector-of2 .ensures ∙ vector-from w at 4)
-    (c .before .before .before .before .before .before .vector-of3 .ensures ∙ vector-from w at 8)
-    (c .before .before .before .before .before .vector-of4 .ensures ∙ vector-from w at 12)
-    (c .before .before .before .before .vector-of5 .ensures ∙ vector-from w at 16)
-    (c .before .before .before .vector-of6 .ensures ∙ vector-from w at 20)
-    (c .before .before .vector-of7 .ensures ∙ vector-from w at 24)
-    (c .before .distance-of .ensures)
+returns c = let w = words (c .before .before .before .before .before .before .before .before .before .before .before .before .args .block .now) in
+    let at = c .before .before .before .before .before .before .before .before .before .before .before .before .args .at in
+    light-made (from w at) _ _ _ _ _ _ _ _ _
+    (c .before .before .before .before .before .before .before .before .before .vector-of .ensures ∙ vector-first w at)
+    (c .before .before .before .before .before .before .before .before .vector-of2 .ensures ∙ vector-from w at 4)
+    (c .before .before .before .before .before .before .before .vector-of3 .ensures ∙ vector-from w at 8)
+    (c .before .before .before .before .before .before .vector-of4 .ensures ∙ vector-from w at 12)
+    (c .before .before .before .before .before .vector-of5 .ensures ∙ vector-from w at 16)
+    (c .before .before .before .before .vector-of6 .ensures ∙ vector-from w at 20)
+    (c .before .before .before .vector-of7 .ensures ∙ vector-from w at 24)
+    (c .before .before .distance-of .ensures)
+    (c .light-number .ensures)
 
 pub light-of-spec : {M : Type 1} → statement M
 light-of-spec =
@@ -105,8 +104,8 @@ light-of-spec =
     add-vector-of-6
     vector-of-requires-7
     distance-of-requires
-    add-t36
-    mul-t37
-    shared-slice-read-t39
-    cast-t40
+    add-light-number
+    mul-light-number
+    shared-slice-read-light-number
+    light-number-requires
     returns)
