@@ -1,1 +1,3 @@
 pub mod Toward
+pub mod Way
+pub mod AwayLaws

@@ -2,9 +2,18 @@
 // facing, highlights and the geometric factor.
 ghost use mathlib.Core.Path.{_≡_};
 ghost use mathlib.Core.Bool.{_||_};
-ghost use Rattle.shade_light.specs.Toward.{lightVector, halfOf, towardOf, offsetOf, awayOf, alongTangent, inputsOf, facingOf, highlightsOf, factorBy, factorOf};
+ghost use Rattle.block.specs.Words.{isScaled};
+ghost use Rattle.shade_light.specs.Toward.{lightVector, halfOf, towardOf, alongTangent, inputsOf, facingOf, highlightsOf, factorBy, factorOf};
+ghost use Rattle.shade_light.specs.Way.{lengthIf, wayTo};
+use lighting::Distance;
 use lighting::Light;
 use shade_surface::Frame;
+
+// The way from the fragment to a light, and its length where something reads it: a light's vector and its distance share the root.
+pub struct Way {
+    pub vector: [f32; 3],
+    pub length: f32,
+}
 
 // The light's unit vector, and the half vector between it and the view.
 pub struct Toward {
@@ -12,15 +21,51 @@ pub struct Toward {
     pub half: [f32; 3],
 }
 
-fn light_vector(light: Light, view: [f32; 3]) -> [f32; 3]
+pub fn either(a: bool, b: bool) -> bool
+    ensures { λ r. ⌜ r ≡ (a || b) ⌝ }
+{
+    if a { true } else { b }
+}
+
+fn scaled(distance: Distance) -> bool
+    ensures { λ r. ⌜ r ≡ isScaled distance ⌝ }
+{
+    match distance {
+        Distance::Without => false,
+        Distance::Scaled(_, _) => true,
+    }
+}
+
+fn length_if(needed: bool, v: [f32; 3]) -> f32
+    ensures { λ r. ⌜ r ≡ lengthIf needed v ⌝ }
+{
+    if needed {
+        root::root(vectors::dot(v, v))
+    } else {
+        0.0
+    }
+}
+
+pub fn way_to(light: Light, view: [f32; 3]) -> Way
+    ensures { λ r. ⌜ r ≡ wayTo light view ⌝ }
+{
+    let position = light.position;
+    let distance = light.distance;
+    let vector = vectors::plus(position, view);
+    let length = length_if(either(!light.directional, scaled(distance)), vector);
+    Way { vector, length }
+}
+
+fn light_vector(light: Light, view: [f32; 3], way: Way) -> [f32; 3]
+    requires { ⌜ way ≡ wayTo light view ⌝ }
     ensures { λ r. ⌜ r ≡ lightVector light view ⌝ }
 {
     let direction = light.direction;
-    let position = light.position;
+    let vector = way.vector;
     if light.directional {
         direction
     } else {
-        vectors::normalized(vectors::plus(position, view))
+        vectors::over(vector, way.length)
     }
 }
 
@@ -34,31 +79,15 @@ fn half(needed: bool, view: [f32; 3], light: [f32; 3]) -> [f32; 3]
     }
 }
 
-pub fn toward_light(light: Light, frame: Frame, needed: bool) -> Toward
+pub fn toward_light(light: Light, frame: Frame, way: Way, needed: bool) -> Toward
+    requires { ⌜ way ≡ wayTo light (frame .view) ⌝ }
     ensures { λ r. ⌜ r ≡ towardOf light frame needed ⌝ }
 {
     let view = frame.view;
     let norm_view = frame.norm_view;
-    let light_vector = light_vector(light, view);
+    let light_vector = light_vector(light, view, way);
     let half = half(needed, norm_view, light_vector);
     Toward { light_vector, half }
-}
-
-fn offset(view: [f32; 3], position: [f32; 3]) -> [f32; 3]
-    ensures { λ r. ⌜ r ≡ offsetOf view position ⌝ }
-{
-    [
-        -view[0] - position[0],
-        -view[1] - position[1],
-        -view[2] - position[2],
-    ]
-}
-
-pub fn away(view: [f32; 3], position: [f32; 3]) -> f32
-    ensures { λ r. ⌜ r ≡ awayOf view position ⌝ }
-{
-    let offset = offset(view, position);
-    root::root(vectors::dot(offset, offset))
 }
 
 fn along_tangent(config: u32, normal: [f32; 3], tangent: [f32; 3], half: [f32; 3]) -> f32
@@ -97,12 +126,6 @@ pub fn inputs_of(
         0.0,
         0.0,
     ]
-}
-
-pub fn either(a: bool, b: bool) -> bool
-    ensures { λ r. ⌜ r ≡ (a || b) ⌝ }
-{
-    if a { true } else { b }
 }
 
 pub fn facing_of(both: bool, x: f32) -> f32

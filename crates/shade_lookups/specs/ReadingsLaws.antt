@@ -2,7 +2,7 @@
 -- Assumes nothing.
 use Prim.Native.Nat.{ℕ, _+_, _<_}
 use native.Mathlib.Omega.{arith}
-use mathlib.Core.Path.{_≡_, refl}
+use mathlib.Core.Path.{_≡_, refl, ap}
 use mathlib.Core.List.{List}
 use mathlib.Core.Bool.{Bool, true, false, cond, _||_, true≢false}
 use lib.Ieee.{Float}
@@ -16,6 +16,8 @@ use Rattle.lighting.specs.declared.Distance.the-variants.{Without, Scaled}
 use Rattle.shade_surface.specs.declared.Frame.{Frame}
 use Rattle.shade_light.specs.declared.Toward.{Toward}
 use Rattle.shade_light.specs.Toward.{awayOf}
+use Rattle.shade_light.specs.Way.{wayTo}
+use Rattle.shade_light.specs.AwayLaws.{away-is}
 use Rattle.shade_lookups.specs.declared.Lookups.{Lookups}
 use Rattle.shade_lookups.specs.declared.Reading.the-variants.{Unread}
 use Rattle.vectors.specs.Vectors.{_⊗_}
@@ -119,3 +121,12 @@ module _ (tables : List ℕ) where
   unfolding valuesOf
   read-none lookups frame toward light last h r =
       rw (distance-read light (frame .view) h) (values-unread lookups light _ _ last r)
+
+-- a light's distance is read where the length of the way to it says
+pub distance-by : (light : Light) (view : List Float) → distanceReadingBy (light .distance) (light .number .0) (wayTo light view .length) ≡ distanceReading light view
+unfolding distanceReading distanceReadingBy
+distance-by light view = go (light .distance) refl
+  where
+    go : (d : Distance) → light .distance ≡ d → distanceReadingBy (light .distance) (light .number .0) (wayTo light view .length) ≡ distanceReadingBy (light .distance) (light .number .0) (awayOf view (light .position))
+    go Without e = rw e refl
+    go (Scaled bias scale) e = ap (λ (x : Float). distanceReadingBy (light .distance) (light .number .0) x) (away-is light view bias scale e)

@@ -4,7 +4,7 @@
 ghost use mathlib.Core.Path.{_≡_};
 ghost use Prim.Native.Nat.{_≤_};
 ghost use Rattle.shade_lookups.specs.Lookups.{placeOf, inputOf, distancePlace, present as presentOf};
-ghost use Rattle.shade_lookups.specs.Readings.{readsTables, tableFor, readingBy, readingIf, spotReading, fresnelReading, distanceReading, readingsBy, readingsOf, scaledIf, spotScaled, fresnelScaled, valuesFrom, unread as unreadOf};
+ghost use Rattle.shade_lookups.specs.Readings.{readsTables, tableFor, readingBy, readingIf, spotReading, fresnelReading, distanceReadingBy, readingsBy, readingsOf, scaledIf, spotScaled, fresnelScaled, valuesFrom, unread as unreadOf};
 use binary32::Place;
 use lighting::Distance;
 use lighting::Light;
@@ -152,16 +152,16 @@ fn fresnel_reading(last: bool, lookup: OptionalLookup, both: bool, inputs: [f32;
     }
 }
 
-pub fn distance_reading(light: Light, view: [f32; 3]) -> Reading
-    ensures { λ r. ⌜ r ≡ distanceReading light view ⌝ }
+// Of a light that is so far away.
+pub fn distance_reading(light: Light, away: f32) -> Reading
+    ensures { λ r. ⌜ r ≡ distanceReadingBy (light .distance) (light .number .0) away ⌝ }
 {
     let distance = light.distance;
-    let position = light.position;
     let number = light.number;
     match distance {
         Distance::Without => Reading::Unread,
         Distance::Scaled(bias, scale) => {
-            let place = distance_place(bias, scale, shade_light::away(view, position));
+            let place = distance_place(bias, scale, away);
             Reading::At(table_for(16, number), place.entry, place.delta)
         }
     }

@@ -29,7 +29,8 @@ use Rattle.shade_surface.specs.Surface.{lengthOf, quaternionOver, unitQuaternio
 use Rattle.shade_light.specs.Toward.{lightVector, halfOf, towardOf, offsetOf, awayOf, alongTangent, inputsBy, inputsOf, facingOf, highlightsOf, factorBy, factorOf}
 use Rattle.shade_lookups.specs.Lookups.{present, placeOf, inputOf, valueOf, valueIf, spotOf, fresnelOf, distancePlace, distanceBy, distanceOf, valuesBy, valuesOf}
 use Rattle.shade_sums.specs.Sums.{primaryOf, secondaryOf, alphaOf, diffuseOf, timesIf, specular0Of, reflectedOf, specular1Of, specularBy, specularOf, shadowFor, addedOf, summedOf, withLightBy, withLight, shadowedAlpha, finishOf}
-use Rattle.shading.specs.Shade.{lookupsOf, settingsOf, stepOf, sumsBy, sumsOf, lightingFrame, lightingShadow, shadeBy, shadeOf, coloursOf}
+use Rattle.shade_step.specs.Step.{stepOf}
+use Rattle.shading.specs.Shade.{lookupsOf, settingsOf, sumsBy, sumsOf, lightingFrame, lightingShadow, shadeBy, shadeOf, coloursOf}
 
 abbrev half : Float
 half = floatOf 0x3f00_0000

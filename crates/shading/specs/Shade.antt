@@ -14,11 +14,11 @@ use Rattle.block.specs.Answers.{bumpUnit, shadowUnit}
 use Rattle.shade_surface.specs.declared.Frame.{Frame}
 use Rattle.shade_surface.specs.Surface.{shadowOf, frameOf}
 use Rattle.shade_lookups.specs.declared.Lookups.{Lookups}
-use Rattle.shade_light.specs.Toward.{towardOf}
-use Rattle.shade_lookups.specs.Lookups.{present, valuesOf}
+use Rattle.shade_lookups.specs.Lookups.{present}
 use Rattle.shade_sums.specs.declared.Settings.{Settings}
 use Rattle.shade_sums.specs.declared.Sums.{Sums}
-use Rattle.shade_sums.specs.Sums.{primaryOf, secondaryOf, alphaOf, withLight, finishOf}
+use Rattle.shade_sums.specs.Sums.{primaryOf, secondaryOf, alphaOf, finishOf}
+use Rattle.shade_step.specs.Step.{stepOf}
 
 -- ---- the parts of a lighting
 
@@ -48,12 +48,6 @@ settingsOf l shadow =
     }
 
 -- ---- slot by slot
-
--- the sums with one light's contribution; `last` is the last slot lit
-unfoldable pub stepOf : List ℕ → Lookups → Frame → Settings → Bool → Light → Sums → Sums
-stepOf tables lookups frame settings last light sums =
-    let toward = towardOf light frame (lookups .«needs_half») in
-    withLight sums light (frame .normal) toward (valuesOf tables lookups frame toward light last) settings last
 
 abbrev pub startSums : Sums
 startSums =

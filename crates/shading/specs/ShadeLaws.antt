@@ -15,7 +15,8 @@ use Rattle.shade_surface.specs.declared.Frame.{Frame}
 use Rattle.shade_lookups.specs.declared.Lookups.{Lookups}
 use Rattle.shade_sums.specs.declared.Settings.{Settings}
 use Rattle.shade_sums.specs.Sums.{addedOf, summedOf, withLightBy, withLight, shadowedAlpha, finishOf}
-use Rattle.shading.specs.Shade.{settingsOf, stepOf, sumsBy, sumsOf, shadeBy, shadeOf}
+use Rattle.shade_step.specs.Step.{stepOf}
+use Rattle.shading.specs.Shade.{settingsOf, sumsBy, sumsOf, shadeBy, shadeOf}
 
 neither : (b : Bool) → (b && false) ≡ false
 neither true = refl

@@ -1,4 +1,4 @@
-// The shading of a fragment from a lighting, with the tables as words.
+// The shading of a fragment from a lighting.
 ghost use mathlib.Core.Path.{_≡_};
 ghost use mathlib.Core.Bool.{true};
 ghost use Prim.Native.Nat.{_+_, _≤_, _<_};
@@ -8,94 +8,17 @@ ghost use Rattle.refusals.specs.Numbers.{outcomeNumber};
 ghost use Rattle.block.specs.Answers.{inRange};
 ghost use Rattle.shading.specs.Numbered.{Numbered};
 ghost use Rattle.shading.specs.Answers.{shading, shades};
-ghost use Rattle.shade_lookups.specs.Lookups.{valuesOf};
-ghost use Rattle.shade_lookups.specs.Readings.{readOf, readAll};
-ghost use Rattle.shading.specs.Shade.{lookupsOf, settingsOf, stepOf, sumsBy, lightingFrame, lightingShadow, texelOf, shadeBy, shadeOf};
+ghost use Rattle.sources.specs.Sources.{given};
+ghost use Rattle.shading.specs.Shade.{lookupsOf, settingsOf, sumsBy, lightingFrame, lightingShadow, texelOf, shadeBy, shadeOf};
 use lighting::Light;
 use lighting::Lighting;
 use lighting::Slot;
 use refusals::Outcome;
 use refusals::Refusal;
-use shade_light::Toward;
 use shade_lookups::Lookups;
-use shade_lookups::Reading;
-use shade_lookups::Readings;
-use shade_lookups::Values;
 use shade_sums::Settings;
 use shade_sums::Sums;
 use shade_surface::Frame;
-
-fn read(tables: &[u32], reading: Reading) -> f32
-    ensures { λ r. ⌜ r ≡ readOf (now (tables .entry)) reading ⌝ }
-{
-    match reading {
-        Reading::Unread => 1.0,
-        Reading::At(table, entry, delta) => tables::lookup(tables, table, entry, delta),
-    }
-}
-
-fn read_all(tables: &[u32], readings: Readings, distance: f32) -> Values
-    ensures { λ r. ⌜ r ≡ readAll (now (tables .entry)) readings distance ⌝ }
-{
-    let spot = readings.spot;
-    let distribution0 = readings.distribution0;
-    let red = readings.red;
-    let green = readings.green;
-    let blue = readings.blue;
-    let distribution1 = readings.distribution1;
-    let fresnel = readings.fresnel;
-    Values {
-        distance,
-        spot: read(tables, spot),
-        distribution0: read(tables, distribution0),
-        red: read(tables, red),
-        green: read(tables, green),
-        blue: read(tables, blue),
-        distribution1: read(tables, distribution1),
-        fresnel: read(tables, fresnel),
-    }
-}
-
-fn values_of(
-    tables: &[u32],
-    lookups: Lookups,
-    frame: Frame,
-    toward: Toward,
-    light: Light,
-    last: bool,
-) -> Values
-    requires { ⌜ light .number .0 < 8 ⌝ }
-    ensures { λ r. ⌜ r ≡ valuesOf (now (tables .entry)) lookups frame toward light last ⌝ }
-{
-    let view = frame.view;
-    let distance = read(tables, shade_lookups::distance_reading(light, view));
-    if shade_lookups::reads_tables(lookups, light) {
-        let readings = shade_lookups::readings_of(lookups, frame, toward, light, last);
-        let read = read_all(tables, readings, distance);
-        shade_lookups::values_from(lookups, light, read, last)
-    } else {
-        shade_lookups::unread(distance)
-    }
-}
-
-// The sums with one light's contribution.
-fn step(
-    tables: &[u32],
-    lookups: Lookups,
-    frame: Frame,
-    settings: Settings,
-    last: bool,
-    light: Light,
-    sums: Sums,
-) -> Sums
-    requires { ⌜ light .number .0 < 8 ⌝ }
-    ensures { λ r. ⌜ r ≡ stepOf (now (tables .entry)) lookups frame settings last light sums ⌝ }
-{
-    let normal = frame.normal;
-    let toward = shade_light::toward_light(light, frame, lookups.needs_half);
-    let values = values_of(tables, lookups, frame, toward, light, last);
-    shade_sums::with_light(sums, light, normal, toward, values, settings, last)
-}
 
 fn lookups_of(l: Lighting) -> Lookups
     ensures { λ r. ⌜ r ≡ lookupsOf l ⌝ }
@@ -146,14 +69,15 @@ fn is_last(slot: Slot, count: usize) -> bool
 
 fn sum_lights(
     tables: &[u32],
+    bytes: &[u8],
     lookups: Lookups,
     frame: Frame,
     settings: Settings,
     lights: [Light; 8],
     count: usize,
 ) -> Sums
-    requires { ⌜ (count ≤ 8) × Numbered lights count ⌝ }
-    ensures { λ r. ⌜ r ≡ sumsBy (now (tables .entry)) lookups frame settings lights count count ⌝ }
+    requires { ⌜ (length (given (now tables) (now bytes)) ≡ 12288) × (count ≤ 8) × Numbered lights count ⌝ }
+    ensures { λ r. ⌜ r ≡ sumsBy (given (now (tables .entry)) (now (bytes .entry))) lookups frame settings lights count count ⌝ }
 {
     let mut sums = Sums {
         diffuse: [0.0, 0.0, 0.0, 1.0],
@@ -163,7 +87,7 @@ fn sum_lights(
     while i < count {
         let light = lights[i];
         let last = is_last(Slot(i), count);
-        sums = step(tables, lookups, frame, settings, last, light, sums);
+        sums = shade_step::step(tables, bytes, lookups, frame, settings, last, light, sums);
         i += 1;
     }
     sums
@@ -195,16 +119,24 @@ fn shadow_of(l: Lighting, texels: [[f32; 4]; 4]) -> [f32; 4]
 }
 
 // From the frame and the shadow.
-fn shade_by(tables: &[u32], l: Lighting, frame: Frame, texel: [f32; 4]) -> [u32; 8]
-    requires { ⌜ inRange l ≡ true ⌝ }
-    ensures { λ r. ⌜ r ≡ shadeBy (now (tables .entry)) l frame texel ⌝ }
+fn shade_by(tables: &[u32], bytes: &[u8], l: Lighting, frame: Frame, texel: [f32; 4]) -> [u32; 8]
+    requires { ⌜ (length (given (now tables) (now bytes)) ≡ 12288) × (inRange l ≡ true) ⌝ }
+    ensures { λ r. ⌜ r ≡ shadeBy (given (now (tables .entry)) (now (bytes .entry))) l frame texel ⌝ }
 {
     let lights = l.lights;
     let shadow = l.shadow;
     let ambient = l.global_ambient;
     let lookups = lookups_of(l);
     let settings = settings_of(l, texel);
-    let sums = sum_lights(tables, lookups, frame, settings, lights, l.light_count);
+    let sums = sum_lights(
+        tables,
+        bytes,
+        lookups,
+        frame,
+        settings,
+        lights,
+        l.light_count,
+    );
     let alpha = shade_sums::alpha_of(shadow);
     shade_sums::finish(
         sums,
@@ -216,19 +148,21 @@ fn shade_by(tables: &[u32], l: Lighting, frame: Frame, texel: [f32; 4]) -> [u32;
     )
 }
 
-fn shaded(
+// The eight channels, 0 to 255, in the printed order, of a lighting in range and tables of the right length.
+pub fn shaded(
     l: Lighting,
     tables: &[u32],
+    bytes: &[u8],
     quaternion: [f32; 4],
     view: [f32; 3],
     texels: [[f32; 4]; 4],
 ) -> [u32; 8]
-    requires { ⌜ inRange l ≡ true ⌝ }
-    ensures { λ r. ⌜ r ≡ shadeOf l (now (tables .entry)) quaternion view texels ⌝ }
+    requires { ⌜ (length (given (now tables) (now bytes)) ≡ 12288) × (inRange l ≡ true) ⌝ }
+    ensures { λ r. ⌜ r ≡ shadeOf l (given (now (tables .entry)) (now (bytes .entry))) quaternion view texels ⌝ }
 {
     let frame = frame_of(l, quaternion, view, texels);
     let shadow = shadow_of(l, texels);
-    shade_by(tables, l, frame, shadow)
+    shade_by(tables, bytes, l, frame, shadow)
 }
 
 fn put(answer: &mut [u32], k: [u32; 8])
@@ -264,7 +198,11 @@ pub fn shade(
         return Outcome::Refused(Refusal::WrongFragment);
     }
     if block_accepted::acceptable(lighting) {
-        put(answer, shaded(lighting, tables, quaternion, view, texels));
+        let none = [0u8; 0];
+        put(
+            answer,
+            shaded(lighting, tables, &none, quaternion, view, texels),
+        );
         return Outcome::Done;
     }
     Outcome::Refused(Refusal::NotWellFormed)

@@ -1,22 +1,26 @@
--- `shade_light::light_vector` meets its contract: each operation and call is the definition's, in its order. Assumes nothing.
+-- `shade_light::light_vector` meets its contract: a directional light's vector is its direction, any other's the way over its length. Assumes nothing.
+use Rattle.shade_light.specs.declared.Way.{Way}
+use Rattle.vectors.specs.Vectors.{overOf}
+use mathlib.Core.Path.{_≡_, ap, sym, _∙_}
 use Rattle.shade_light.specs.Toward.{lightVector}
+use Rattle.shade_light.specs.AwayLaws.{vector-is}
 use borrow.Author.Needs.{needs}
 use Rattle.shade_light.proofs.light_vector.Statement.{statement}
 use Rattle.shade_light.proofs.light_vector.Tie as tie
 
-plus-requires : tie.Need-plus-requires
-plus-requires c κs = search needs
-
-normalized-requires : tie.Need-normalized-requires
-normalized-requires c κs = search needs
+over-requires : tie.Need-over-requires
+over-requires c κs = search needs
 
 returns : tie.Need-returns
 unfolding lightVector
 returns c = simp (c .if1 .taken)
 
 returns-2 : tie.Need-returns-2
-unfolding lightVector
-returns-2 c = simp (c .normalized .ensures, c .before .plus .ensures, c .before .before .if1 .left)
+returns-2 c =
+    let s = c .before .before .before .before in
+    c .over .ensures
+    ∙ ap (λ (w : Way). overOf (w .vector) (w .length)) (s .pre)
+    ∙ vector-is (s .args .light) (s .args .view) (c .before .if1 .left)
 
 pub light-vector-spec : {M : Type 1} → statement M
-light-vector-spec = tie.close (tie.spec plus-requires normalized-requires returns returns-2)
+light-vector-spec = tie.close (tie.spec over-requires returns returns-2)

@@ -1,5 +1,5 @@
 -- `shade_lookups::distance_reading` meets its contract: each operation and call is the definition's, in its order. Assumes nothing.
-use Rattle.shade_lookups.specs.Readings.{distanceReading, distanceReadingBy}
+use Rattle.shade_lookups.specs.Readings.{distanceReadingBy}
 use borrow.Author.Needs.{needs}
 use Rattle.shade_lookups.proofs.distance_reading.Statement.{statement}
 use Rattle.shade_lookups.proofs.distance_reading.Tie as tie
@@ -10,9 +10,6 @@ enum-told c = search needs
 enum-known-distance : tie.Need-enum-known-distance
 enum-known-distance c = search needs
 
-away-requires : tie.Need-away-requires
-away-requires c κs = search needs
-
 distance-place-requires : tie.Need-distance-place-requires
 distance-place-requires c κs = search needs
 
@@ -20,12 +17,12 @@ table-for-requires : tie.Need-table-for-requires
 table-for-requires c κs = search needs
 
 returns : tie.Need-returns
-unfolding distanceReading distanceReadingBy
+unfolding distanceReadingBy
 returns c = simp (c .enum-told .given .1)
 
 returns-2 : tie.Need-returns-2
-unfolding distanceReading distanceReadingBy
-returns-2 c = simp (c .table-for .ensures, c .before .distance-place .ensures, c .before .before .away .ensures, c .before .before .before .before .distance .given .1)
+unfolding distanceReadingBy
+returns-2 c = simp (c .table-for .ensures, c .before .distance-place .ensures, c .before .before .before .distance .given .1)
 
 pub distance-reading-spec : {M : Type 1} → statement M
 distance-reading-spec =
@@ -33,7 +30,6 @@ distance-reading-spec =
     (tie.spec
     enum-told
     enum-known-distance
-    away-requires
     distance-place-requires
     table-for-requires
     returns

@@ -1,5 +1,10 @@
 -- `shading::shade` meets its contract: each answer is the definition's, by the tests that led to it (`Answers`). Assumes nothing.
-use mathlib.Core.Path.{sym, _∙_}
+use Prim.Native.Nat.{ℕ}
+use Rattle.shading.specs.Shade.{shadeOf}
+use mathlib.Core.Path.{_≡_, refl, sym, ap, _∙_}
+use mathlib.Core.List.{List, []}
+use lib.ListN.{length}
+use Rattle.sources.specs.SourcesLaws.{given-words}
 use Rattle.block.specs.AcceptedLaws.{accepted-range}
 use Rattle.shading.proofs.Answers.{wrong-tables, wrong-answer, refused, done}
 use borrow.Author.Needs.{needs}
@@ -15,8 +20,13 @@ returns-2 c = wrong-answer _ _ _ _ _ _ (c .before .if1 .left) (c .if2 .taken)
 acceptable-requires : tie.Need-acceptable-requires
 acceptable-requires c κs = search needs
 
+slice-aggregate-shaded : tie.Need-slice-aggregate-shaded
+slice-aggregate-shaded c = search needs
+
 shaded-requires : tie.Need-shaded-requires
-shaded-requires c κs = accepted-range _ (sym (c .before .before .acceptable .ensures) ∙ c .before .if3 .taken)
+shaded-requires c κs =
+    let s = c .before .before .before .before .before .before .before .before in
+    (ap length (given-words (s .args .tables .now) [] refl) ∙ c .before .before .before .before .before .if1 .left, accepted-range _ (sym (c .before .before .before .acceptable .ensures) ∙ c .before .before .if3 .taken))
 
 put-requires : tie.Need-put-requires
 put-requires c κs = search needs
@@ -26,9 +36,10 @@ same-length c = search needs
 
 returns-3 : tie.Need-returns-3
 returns-3 c =
-    done _ _ _ _ _ _ _ (c .before .before .before .before .before .before .before .before .if1 .left) (c .before .before .before .before .before .before .before .if2 .left)
-    (sym (c .before .before .before .before .before .before .acceptable .ensures) ∙ c .before .before .before .before .before .if3 .taken)
-    (c .before .before .put .ensures ∙ c .before .before .before .shaded .ensures)
+    let s = c .before .before .before .before .before .before .before .before .before .before .before .before in
+    done _ _ _ _ _ _ _ (c .before .before .before .before .before .before .before .before .before .if1 .left) (c .before .before .before .before .before .before .before .before .if2 .left)
+    (sym (c .before .before .before .before .before .before .before .acceptable .ensures) ∙ c .before .before .before .before .before .before .if3 .taken)
+    (c .before .before .put .ensures ∙ c .before .before .before .shaded .ensures ∙ ap (λ (t : List ℕ). shadeOf (s .args .lighting) t (s .args .quaternion) (s .args .view) (s .args .texels)) (given-words (s .args .tables .now) [] refl))
 
 returns-4 : tie.Need-returns-4
 returns-4 c = refused _ _ _ _ _ _ (c .before .before .before .if1 .left) (c .before .before .if2 .left) (sym (c .before .acceptable .ensures) ∙ c .if3 .left)
@@ -40,6 +51,7 @@ shade-spec =
     returns
     returns-2
     acceptable-requires
+    slice-aggregate-shaded
     shaded-requires
     put-requires
     same-length

@@ -26,8 +26,8 @@ settings-of-requires c κs = search needs
 
 sum-lights-requires : tie.Need-sum-lights-requires
 sum-lights-requires c κs =
-    let s = c .before .before .before .before .before in
-    (range-count (s .args .l) (s .pre), numbered (s .args .l) (s .pre))
+    let s = c .before .before .before .before .before .before in
+    (s .pre .0, range-count (s .args .l) (s .pre .1), numbered (s .args .l) (s .pre .1))
 
 alpha-of-requires : tie.Need-alpha-of-requires
 alpha-of-requires c κs = search needs

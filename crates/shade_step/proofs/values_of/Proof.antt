@@ -1,9 +1,10 @@
--- `shading::values_of` meets its contract: each operation and call is the definition's, in its order. Assumes nothing.
+-- `shade_step::values_of` meets its contract: it reads the tables in steps, which give the definition's values, and the distance where the length of the way says. Assumes nothing.
 use mathlib.Core.Path.{sym, _∙_}
-use Rattle.shade_lookups.specs.ReadingsLaws.{read-in-steps, read-none}
+use Rattle.shade_lookups.specs.ReadingsLaws.{distance-by, read-in-steps, read-none}
+use Rattle.sources.specs.Sources.{given}
 use borrow.Author.Needs.{needs}
-use Rattle.shading.proofs.values_of.Statement.{statement}
-use Rattle.shading.proofs.values_of.Tie as tie
+use Rattle.shade_step.proofs.values_of.Statement.{statement}
+use Rattle.shade_step.proofs.values_of.Tie as tie
 
 distance-reading-requires : tie.Need-distance-reading-requires
 distance-reading-requires c κs = search needs
@@ -30,15 +31,15 @@ returns : tie.Need-returns
 returns c =
     let s = c .before .before .before .before .before .before .before .before .before in
     simp
-    (c .values-from .ensures, c .before .read-all .ensures, c .before .before .readings-of .ensures, c .before .before .before .before .before .read .ensures, c .before .before .before .before .before .before .distance-reading .ensures)
-    (read-in-steps (s .args .tables .now) (s .args .lookups) (s .args .frame) (s .args .toward) (s .args .light) (s .args .last) (s .pre))
+    (c .values-from .ensures, c .before .read-all .ensures, c .before .before .readings-of .ensures, c .before .before .before .before .before .read .ensures, c .before .before .before .before .before .before .distance-reading .ensures, s .pre .2, distance-by (s .args .light) (s .args .frame .view))
+    (read-in-steps (given (s .args .tables .now) (s .args .bytes .now)) (s .args .lookups) (s .args .frame) (s .args .toward) (s .args .light) (s .args .last) (s .pre .1))
 
 returns-2 : tie.Need-returns-2
 returns-2 c =
     let s = c .before .before .before .before .before .before .before in
     simp
-    (c .unread .ensures, c .before .before .before .read .ensures, c .before .before .before .before .distance-reading .ensures)
-    (read-none (s .args .tables .now) (s .args .lookups) (s .args .frame) (s .args .toward) (s .args .light) (s .args .last) (s .pre)
+    (c .unread .ensures, c .before .before .before .read .ensures, c .before .before .before .before .distance-reading .ensures, s .pre .2, distance-by (s .args .light) (s .args .frame .view))
+    (read-none (given (s .args .tables .now) (s .args .bytes .now)) (s .args .lookups) (s .args .frame) (s .args .toward) (s .args .light) (s .args .last) (s .pre .1)
     (sym (c .before .before .reads-tables .ensures) ∙ c .before .if1 .left))
 
 pub values-of-spec : {M : Type 1} → statement M

@@ -1,8 +1,8 @@
--- `shading::read_all` meets its contract: each operation and call is the definition's, in its order. Assumes nothing.
+-- `shade_step::read_all` meets its contract: each operation and call is the definition's, in its order. Assumes nothing.
 use Rattle.shade_lookups.specs.Readings.{readAll}
 use borrow.Author.Needs.{needs}
-use Rattle.shading.proofs.read_all.Statement.{statement}
-use Rattle.shading.proofs.read_all.Tie as tie
+use Rattle.shade_step.proofs.read_all.Statement.{statement}
+use Rattle.shade_step.proofs.read_all.Tie as tie
 
 read-requires : tie.Need-read-requires
 read-requires c κs = search needs
