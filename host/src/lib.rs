@@ -5,6 +5,7 @@
 
 pub mod blocks;
 pub mod floats;
+pub mod forms;
 pub mod patterns;
 pub mod tables;
 

@@ -1,1 +1,2 @@
 pub mod PackFile
+pub mod FormNumber

@@ -1,8 +1,10 @@
-// Decoding with packing, and reading a block, under plain names, for the host's comparisons with the Rust module: a library for tests alone.
+// Decoding with packing, and the check of a block, under plain names, for the host's comparisons: a library for tests alone.
 // Each call returns document 01's number, 0 where it is done and 100 where the lighting is off.
 ghost use mathlib.Core.Path.{_≡_};
 ghost use Rattle.block.specs.Answers.{packing as packingAs};
 ghost use Rattle.block_abi.specs.PackFile.{packReading, packFile};
+ghost use Rattle.block_abi.specs.FormNumber.{formNumber};
+use block::BlockForm;
 use lighting::OptionalLighting;
 
 fn pack_reading(reading: OptionalLighting, words: &mut [u32]) -> u32
@@ -23,4 +25,21 @@ pub extern "C" fn block_pack(file: &[u32], words: &mut [u32]) -> u32
         return 1;
     }
     pack_reading(decoding::decode(file), words)
+}
+
+// What the check finds of a block: 6 and 7 as reading refuses it, 100 where it is off, and of a well-formed one 0 if no word is a NaN's
+// pattern, else 1.
+#[no_mangle]
+pub extern "C" fn block_form(words: &[u32]) -> u32
+    ensures { λ r. ⌜ r ≡ formNumber (now (words .entry)) ⌝ }
+{
+    if words.len() != 328 {
+        return 6;
+    }
+    match block_check::form(words) {
+        BlockForm::Off => 100,
+        BlockForm::NotWellFormed => 7,
+        BlockForm::NanFree => 0,
+        BlockForm::WithNan => 1,
+    }
 }
