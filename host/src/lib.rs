@@ -8,6 +8,7 @@ pub mod floats;
 pub mod forms;
 pub mod patterns;
 pub mod tables;
+pub mod units;
 
 /// The module, as it stands in the file that the build was given, with `access` appended.
 #[cfg(oracle)]
