@@ -146,7 +146,7 @@ fn file_with(lights: u32, part: u32, r: &mut Random) -> Vec<u32> {
     let all = part.is_multiple_of(2);
     // configuration 8 has every table; bump (normals or tangents), shadow (with all its flags or none), fresnel and clamp
     // are all there, or none of them
-    let (bump, shadow) = ((part / 2 % 2 + 1) << 28, part / 4 % 2 * 0xF << 16);
+    let (bump, shadow) = ((part / 2 % 2 + 1) << 28, (part / 4 % 2 * 0xF) << 16);
     file[0x1C3] = if all { 0x0800_008D | bump | shadow } else { 0 };
     file[0x1C4] = if all { 0 } else { u32::MAX };
     file
