@@ -81,10 +81,11 @@ lightsOf w =
     ∷ slotLight w 7
     ∷ []
 
-unfoldable pub lightingOf : (ℕ → ℕ) → Lighting
-lightingOf w =
+-- the lighting of a block's words, with these lights
+abbrev pub lightingWith : (ℕ → ℕ) → List Light → Lighting
+lightingWith w lights =
     record {
-      lights = lightsOf w;
+      lights = lights;
       «light_count» = w 1;
       «global_ambient» = vectorOf w 36;
       config = w 0;
@@ -103,6 +104,9 @@ lightingOf w =
       bump = bumpOf (w 2);
       shadow = shadowOf (w 3);
     }
+
+unfoldable pub lightingOf : (ℕ → ℕ) → Lighting
+lightingOf w = lightingWith w (lightsOf w)
 
 abbrev pub off : OptionalLighting
 off = record { on = false; lighting = blankLighting }

@@ -36,7 +36,8 @@ pub extern "C" fn block_form(words: &[u32]) -> u32
     if words.len() != 328 {
         return 6;
     }
-    match block_check::form(words) {
+    let none = [0u8; 0];
+    match block_check::form(words, &none) {
         BlockForm::Off => 100,
         BlockForm::NotWellFormed => 7,
         BlockForm::NanFree => 0,

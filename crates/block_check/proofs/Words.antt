@@ -1,19 +1,34 @@
--- Words put together by OR, and the bit of a NaN. The OR of two words is at least each, so it is zero only if both are. Assumes nothing.
-use Prim.Native.Nat.{ℕ, _+_, _%_, _<_, _≤_}
+-- Words put together by OR, and the bit of a NaN. The OR of two words is at least each, so it is zero only if both are, and so is their
+-- sum. Assumes nothing.
+use Prim.Native.Nat.{ℕ, zero, suc, _+_, _%_, _≤_}
 use native.Mathlib.Omega.{arith}
+use native.Mathlib.Nat.{zero-add, add-zero, add-suc, add-assoc}
 use mathlib.Core.Path.{_≡_, refl, sym, ap, _∙_}
-use mathlib.Core.Bool.{Bool, true, false, not, _&&_, _||_}
-use lib.Bits.{bitOr, bitAnd, or-add-and, and-le-r, or-zero-l}
+use mathlib.Core.Bool.{Bool, true, false, not, _&&_, _||_, and-true, and-assoc}
+use lib.Bits.{bitOr, or-add-and, and-le-r, or-zero-l}
 use lib.Dec.{eqb, ltb, leb}
 use mir.Val.{boolByte}
 use borrow.Author.Tests.{eqb-true, eqb-false, ne-eqb, le-ltb, lt-ltb, leb-true, leb-false}
-use Rattle.block.specs.Formed.{isNumber, floatFormed}
+use Rattle.block.specs.Formed.{every, zeros, isNumber, floatFormed}
 
 pub or-more : (n x : ℕ) (a p : Bool) → eqb n 0 ≡ a → eqb x 0 ≡ p → eqb (bitOr n x) 0 ≡ (a && p)
 or-more n x true p e q = ap (λ (k : ℕ). eqb (bitOr k x) 0) (eqb-true n 0 e) ∙ ap (λ (k : ℕ). eqb k 0) (or-zero-l x) ∙ q
 or-more n x false p e q =
     let z : n ≡ 0 → ⊥ = eqb-false n 0 e in
     ne-eqb (bitOr n x) 0 (λ k. let h : bitOr n x ≡ 0 = k in z (omega (arith, or-add-and n x, and-le-r n x)))
+
+pub sum-more : (n x : ℕ) (a p : Bool) → eqb n 0 ≡ a → eqb x 0 ≡ p → eqb (n + x) 0 ≡ (a && p)
+sum-more n x true p e q = ap (λ (k : ℕ). eqb (k + x) 0) (eqb-true n 0 e) ∙ ap (λ (k : ℕ). eqb k 0) (zero-add x) ∙ q
+sum-more n x false p e q = let z : n ≡ 0 → ⊥ = eqb-false n 0 e in ne-eqb (n + x) 0 (λ k. let h : n + x ≡ 0 = k in z (omega arith))
+
+-- words from i on are zero if the first n are, and then the others
+pub zeros-more : (w : ℕ → ℕ) (i n m : ℕ) → zeros w i (n + m) ≡ (zeros w i n && zeros w (i + n) m)
+unfolding zeros every
+zeros-more w i n zero = rw (and-true, add-zero n) refl
+zeros-more w i n (suc m) =
+    rw (add-suc n m)
+    (ap (λ (b : Bool). b && eqb (w (i + (n + m))) 0) (zeros-more w i n m)
+    ∙ rw (← add-assoc i n m) (and-assoc (zeros w i n) (zeros w (i + n) m) (eqb (w (i + n + m)) 0)))
 
 flag-zero : (b : Bool) → eqb (boolByte b) 0 ≡ not b
 flag-zero true = refl
@@ -26,6 +41,10 @@ nan-flag n = flag-zero (ltb 0x7F80_0000 (n % 0x8000_0000)) ∙ above (leb (n % 0
     above : (b : Bool) → leb (n % 0x8000_0000) 0x7F80_0000 ≡ b → not (ltb 0x7F80_0000 (n % 0x8000_0000)) ≡ b
     above true e = rw (le-ltb 0x7F80_0000 (n % 0x8000_0000) (leb-true (n % 0x8000_0000) 0x7F80_0000 e)) refl
     above false e = rw (lt-ltb 0x7F80_0000 (n % 0x8000_0000) (leb-false (n % 0x8000_0000) 0x7F80_0000 e)) refl
+
+pub flag-few : (b : Bool) → boolByte b ≤ 1
+flag-few true = omega arith
+flag-few false = omega arith
 
 pub odd-flag : (n : ℕ) → eqb (boolByte (ltb 0x7F80_0000 (n % 0x8000_0000) && not (eqb n 0x7FC0_0000))) 0 ≡ floatFormed n
 unfolding floatFormed

@@ -3,17 +3,17 @@
 use Prim.Native.Nat.{ℕ, _+_, _-_, _*_, _%_, _<_, _≤_}
 use native.Mathlib.Omega.{arith}
 use mathlib.Core.Path.{_≡_, refl, sym, ap, subst, _∙_}
-use mathlib.Core.Bool.{Bool, true, false, cond, _&&_, _||_}
-use lib.Dec.{ltb, leb, eqb}
-use borrow.Author.Tests.{eqb-true, eq-eqb, le-leb, lt-leb, leb-true}
+use mathlib.Core.Bool.{Bool, true, false, cond}
+use lib.Dec.{leb, eqb}
+use borrow.Author.Tests.{le-leb, lt-leb}
 use Rattle.block.specs.declared.BlockForm.the-variants.{Off, NotWellFormed, NanFree, WithNan}
 use Rattle.block.specs.Formed.{slotAt, every, zeros, allZero, isNumber, floatFormed, wellFormed}
 use Rattle.block.specs.Answers.{nanFree, formOf}
-use Rattle.block.specs.TestLaws.{never, or-first, every-one, every-of}
-use Rattle.block.specs.FormedLaws.{Shaped, Formed, formed-parts, formed-made}
+use Rattle.block.specs.TestLaws.{or-first, every-one, every-of}
+use Rattle.block.specs.FormedLaws.{Shaped, formed-parts, formed-made}
 use Rattle.block.specs.SmallLaws.{passes}
 use Rattle.block.specs.PackedLaws.{not-all-zero}
-use Rattle.block_check.specs.Parts.{headFormed, lightsFormed}
+use Rattle.block_check.specs.Parts.{headFormed, lightsFormed, floatsForm}
 use Rattle.block_check.specs.PartsLaws.{lights-of-shape, head-of-shape, unused-of-shape, shape-made}
 
 -- what must hold and doesn't
@@ -33,10 +33,6 @@ float-small : (n : ℕ) → n ≤ 0x7F80_0000 → floatFormed n ≡ true
 float-small n h = number-formed n (number-small n h)
 
 module _ (w : ℕ → ℕ) where
-  off-form : zeros w 0 328 ≡ true → formOf w ≡ Off
-  unfolding formOf allZero
-  off-form z = rw z refl
-
   no-form : allZero w ≡ false → wellFormed w ≡ false → formOf w ≡ NotWellFormed
   unfolding formOf
   no-form z f = rw (z, f) refl
@@ -51,14 +47,14 @@ module _ (w : ℕ → ℕ) where
 
   -- no light
 
-  pub all-zero : zeros w 0 328 ≡ true → formOf w ≡ Off
-  all-zero z = off-form z
+  pub all-zero : allZero w ≡ true → formOf w ≡ Off
+  unfolding formOf
+  all-zero z = rw z refl
 
   none-false : w 1 ≡ 0 → wellFormed w ≡ false
   none-false e = fails (wellFormed w) (leb 1 (w 1)) (λ h. formed-parts w h .shape .some) (lt-leb 1 (w 1) (omega arith))
 
-  pub not-zero : w 1 ≡ 0 → zeros w 0 328 ≡ false → formOf w ≡ NotWellFormed
-  unfolding allZero
+  pub not-zero : w 1 ≡ 0 → allZero w ≡ false → formOf w ≡ NotWellFormed
   not-zero e z = no-form z (none-false e)
 
   -- some light
@@ -72,10 +68,10 @@ module _ (w : ℕ → ℕ) where
       no-form (some-word n) (fails (wellFormed w) (leb (w 1) 8) (λ f. formed-parts w f .shape .few) (lt-leb (w 1) 8 h))
 
   module _ (some : w 1 ≡ 0 → ⊥) (few : w 1 ≤ 8) where
-    lit : 328 - slotAt (w 1) ≡ 288 - 36 * w 1
+    lit : 328 - slotAt (w 1) ≡ 36 * (8 - w 1)
     lit = omega arith
 
-    pub unused-words : zeros w (slotAt (w 1)) (288 - 36 * w 1) ≡ false → formOf w ≡ NotWellFormed
+    pub unused-words : zeros w (slotAt (w 1)) (36 * (8 - w 1)) ≡ false → formOf w ≡ NotWellFormed
     unused-words z =
         no-form (some-word some)
         (fails (wellFormed w) (zeros w (slotAt (w 1)) (328 - slotAt (w 1))) (λ f. unused-of-shape w (formed-parts w f .shape)) (ap (λ (n : ℕ). zeros w (slotAt (w 1)) n) lit ∙ z))
@@ -86,7 +82,7 @@ module _ (w : ℕ → ℕ) where
     pub bad-lights : lightsFormed w (w 1) ≡ false → formOf w ≡ NotWellFormed
     bad-lights z = no-form (some-word some) (fails (wellFormed w) (lightsFormed w (w 1)) (λ f. lights-of-shape w (formed-parts w f .shape)) z)
 
-    module _ (unused : zeros w (slotAt (w 1)) (288 - 36 * w 1) ≡ true) (head : headFormed w ≡ true) (lights : lightsFormed w (w 1) ≡ true) where
+    module _ (unused : zeros w (slotAt (w 1)) (36 * (8 - w 1)) ≡ true) (head : headFormed w ≡ true) (lights : lightsFormed w (w 1) ≡ true) where
       shape : Shaped w
       shape =
           shape-made w (le-leb 1 (w 1) (omega arith)) (le-leb (w 1) 8 few)
@@ -107,18 +103,28 @@ module _ (w : ℕ → ℕ) where
       numbers : every (4 + 36 * w 1) (λ k. isNumber (w (36 + k))) ≡ true → every 328 (λ i. isNumber (w i)) ≡ true
       numbers h = every-of 328 (λ i. isNumber (w i)) (passes w shape isNumber number-small (ranged isNumber h))
 
-      pub no-nan : every (4 + 36 * w 1) (λ k. isNumber (w (36 + k))) ≡ true → formOf w ≡ NanFree
+      no-nan : every (4 + 36 * w 1) (λ k. isNumber (w (36 + k))) ≡ true → formOf w ≡ NanFree
       unfolding nanFree
       no-nan h =
           nan-free-form (some-word some)
           (formed (every-of (4 + 36 * w 1) (λ k. floatFormed (w (36 + k))) (λ k m. number-formed (w (36 + k)) (every-one (4 + 36 * w 1) (λ j. isNumber (w (36 + j))) k h m))))
           (numbers h)
 
-      pub a-nan : every (4 + 36 * w 1) (λ k. isNumber (w (36 + k))) ≡ false → every (4 + 36 * w 1) (λ k. floatFormed (w (36 + k))) ≡ true → formOf w ≡ WithNan
+      a-nan : every (4 + 36 * w 1) (λ k. isNumber (w (36 + k))) ≡ false → every (4 + 36 * w 1) (λ k. floatFormed (w (36 + k))) ≡ true → formOf w ≡ WithNan
       unfolding nanFree
       a-nan n h = with-nan-form (some-word some) (formed h) (fails (every 328 (λ i. isNumber (w i))) (every (4 + 36 * w 1) (λ k. isNumber (w (36 + k)))) (widened isNumber) n)
 
-      pub odd-nan : every (4 + 36 * w 1) (λ k. floatFormed (w (36 + k))) ≡ false → formOf w ≡ NotWellFormed
+      odd-nan : every (4 + 36 * w 1) (λ k. floatFormed (w (36 + k))) ≡ false → formOf w ≡ NotWellFormed
       odd-nan z =
           no-form (some-word some)
           (fails (wellFormed w) (every (4 + 36 * w 1) (λ k. floatFormed (w (36 + k)))) (λ f. widened floatFormed (every-of 328 (λ i. floatFormed (w i)) (formed-parts w f .floats))) z)
+
+      pub by-floats : floatsForm w (w 1) ≡ formOf w
+      unfolding floatsForm
+      by-floats = go (every (4 + 36 * w 1) (λ k. isNumber (w (36 + k)))) (every (4 + 36 * w 1) (λ k. floatFormed (w (36 + k)))) refl refl
+        where
+          go : (a b : Bool) → every (4 + 36 * w 1) (λ k. isNumber (w (36 + k))) ≡ a → every (4 + 36 * w 1) (λ k. floatFormed (w (36 + k))) ≡ b
+              → cond a NanFree (cond b WithNan NotWellFormed) ≡ formOf w
+          go true b p q = sym (no-nan p)
+          go false true p q = sym (a-nan p q)
+          go false false p q = sym (odd-nan q)

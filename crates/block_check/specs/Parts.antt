@@ -1,15 +1,19 @@
 -- A well-formed block as the check takes it: the head, then each lit slot, and the floats last. Definitions only.
-use Prim.Native.Nat.{ℕ}
+use Prim.Native.Nat.{ℕ, _+_, _*_}
 use mathlib.Core.Bool.{Bool, cond, not, _&&_, _||_}
 use lib.Dec.{ltb, eqb}
-use Rattle.block.specs.Formed.{from, lookupAt, slotAt, every, bitAt, bumpFormed, shadowFormed, scaleFormed}
+use Rattle.block.specs.declared.BlockForm.{BlockForm}
+use Rattle.block.specs.declared.BlockForm.the-variants.{NotWellFormed, NanFree, WithNan}
+use Rattle.block.specs.Formed.{from, lookupAt, slotAt, every, zeros, bitAt, bumpFormed, shadowFormed, scaleFormed, isNumber, floatFormed}
 
--- the four words of a lookup
+-- the four words of a lookup: presence, input, absolute, scale
 unfoldable pub lookupFormed : (ℕ → ℕ) → Bool
 lookupFormed v =
-    cond (eqb (v 0) 0)
-    (eqb (v 1) 0 && eqb (v 2) 0 && eqb (v 3) 0)
-    (eqb (v 0) 1 && ltb (v 1) 8 && ltb (v 2) 2 && scaleFormed (v 3))
+    ltb (v 0) 2
+    && ltb (v 1) 8
+    && ltb (v 2) 2
+    && scaleFormed (v 3)
+    && (eqb (v 0) 1 || zeros v 1 3)
 
 -- the words before the lookups
 unfoldable pub settingsFormed : (ℕ → ℕ) → Bool
@@ -31,9 +35,9 @@ lookupsFormed w n = every n (λ k. lookupFormed (from w (lookupAt k)))
 unfoldable pub headFormed : (ℕ → ℕ) → Bool
 headFormed w = settingsFormed w && lookupsFormed w 7 && eqb (w 32) 1 && eqb (w 39) 0
 
--- the 36 words of a lit slot but its floats
-unfoldable pub lightFormed : (ℕ → ℕ) → Bool
-lightFormed v =
+-- the fourth word of each vector of a light
+unfoldable pub vectorsPadded : (ℕ → ℕ) → Bool
+vectorsPadded v =
     eqb (v 3) 0
     && eqb (v 7) 0
     && eqb (v 11) 0
@@ -41,10 +45,15 @@ lightFormed v =
     && eqb (v 19) 0
     && eqb (v 23) 0
     && eqb (v 27) 0
-    && eqb (v 30) 0
-    && eqb (v 31) 0
-    && eqb (v 34) 0
-    && eqb (v 35) 0
+
+-- and two after the distance, two at the end
+unfoldable pub lightPadded : (ℕ → ℕ) → Bool
+lightPadded v = vectorsPadded v && eqb (v 30) 0 && eqb (v 31) 0 && eqb (v 34) 0 && eqb (v 35) 0
+
+-- the 36 words of a lit slot but its floats
+unfoldable pub lightFormed : (ℕ → ℕ) → Bool
+lightFormed v =
+    lightPadded v
     && ltb (v 32) 128
     && ltb (v 33) 8
     && (bitAt (v 32) 16 || (eqb (v 28) 0 && eqb (v 29) 0))
@@ -52,3 +61,10 @@ lightFormed v =
 -- the first n slots
 unfoldable pub lightsFormed : (ℕ → ℕ) → ℕ → Bool
 lightsFormed w n = every n (λ s. lightFormed (from w (slotAt s)))
+
+-- the form of a block of n lights that has the right head, slots and unused slots: floats are only from the global ambient to the end of the
+-- lit slots
+unfoldable pub floatsForm : (ℕ → ℕ) → ℕ → BlockForm
+floatsForm w n =
+    cond (every (4 + 36 * n) (λ k. isNumber (w (36 + k)))) NanFree
+    (cond (every (4 + 36 * n) (λ k. floatFormed (w (36 + k)))) WithNan NotWellFormed)

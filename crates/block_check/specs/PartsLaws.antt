@@ -1,18 +1,17 @@
 -- A block has the right shape exactly if its count, unused slots, head and lit slots have. The clauses of the definition are those of the
 -- parts, taken in another order. Assumes nothing.
-use Prim.Native.Nat.{ℕ, zero, suc, _+_, _-_, _*_, _/_, _%_, _<_, _≤_}
+use Prim.Native.Nat.{ℕ, zero, suc, _+_, _-_, _<_}
 use native.Mathlib.Omega.{arith}
-use mathlib.Core.Logic.{⊎-elim}
-use mathlib.Core.Path.{_≡_, refl, sym, ap, _∙_}
-use mathlib.Core.Bool.{Bool, true, false, cond, not, _&&_, _||_}
+use mathlib.Core.Path.{_≡_, refl, sym, _∙_}
+use mathlib.Core.Bool.{Bool, true, not, _&&_, _||_}
 use mathlib.Core.List.{List, [], _∷_}
 use lib.Dec.{ltb, leb, eqb}
 use lib.ListN.{getD}
-use borrow.Author.Tests.{eqb-true, eqb-false, eq-eqb, ne-eqb, ltb-true, lt-ltb, leb-true}
+use borrow.Author.Tests.{ltb-true}
 use Rattle.block.specs.Formed.{from, lookupAt, slotAt, every, zeros, bitAt, bumpFormed, shadowFormed, scaleFormed, paddingZero}
-use Rattle.block.specs.TestLaws.{never, both-first, both-second, _also_, or-cases, or-first, or-second, chain-first, chain-part, every-one, every-of}
+use Rattle.block.specs.TestLaws.{both-first, both-second, _also_, chain-first, chain-part, every-one, every-of}
 use Rattle.block.specs.FormedLaws.{Shaped}
-use Rattle.block_check.specs.Parts.{lookupFormed, settingsFormed, lookupsFormed, headFormed, lightFormed, lightsFormed}
+use Rattle.block_check.specs.Parts.{lookupFormed, settingsFormed, lookupsFormed, headFormed, vectorsPadded, lightPadded, lightFormed, lightsFormed}
 
 -- a lookup
 
@@ -23,55 +22,16 @@ record Lookup (v : ℕ → ℕ) : Type 0 where
   scale : scaleFormed (v 3) ≡ true
   missing : (eqb (v 0) 1 || zeros v 1 3) ≡ true
 
-zero-scale : (n : ℕ) → eqb n 0 ≡ true → scaleFormed n ≡ true
-unfolding scaleFormed
-zero-scale n e = rw (eqb-true n 0 e) refl
-
-small : (n k m : ℕ) → eqb n k ≡ true → k < m → ltb n m ≡ true
-small n k m e h = let q : n ≡ k = eqb-true n k e in lt-ltb n m (omega arith)
-
-three-zeros : (v : ℕ → ℕ) → zeros v 1 3 ≡ (eqb (v 1) 0 && eqb (v 2) 0 && eqb (v 3) 0)
-unfolding zeros every
-three-zeros v = refl
-
 lookup-parts : (v : ℕ → ℕ) → lookupFormed v ≡ true → Lookup v
 unfolding lookupFormed
-lookup-parts v h = go (eqb (v 0) 0) refl h
-  where
-    go : (b : Bool) → eqb (v 0) 0 ≡ b → cond b (eqb (v 1) 0 && eqb (v 2) 0 && eqb (v 3) 0) (eqb (v 0) 1 && ltb (v 1) 8 && ltb (v 2) 2 && scaleFormed (v 3)) ≡ true → Lookup v
-    go true e k =
-        let p = chain-part (eqb (v 1) 0) (eqb (v 2) 0 ∷ eqb (v 3) 0 ∷ []) k in
-        record {
-          presence = small (v 0) 0 2 e (omega arith);
-          input = small (v 1) 0 8 (chain-first (eqb (v 1) 0) (eqb (v 2) 0 ∷ eqb (v 3) 0 ∷ []) k) (omega arith);
-          absolute = small (v 2) 0 2 (p 0) (omega arith);
-          scale = zero-scale (v 3) (p 1);
-          missing = or-second (eqb (v 0) 1) (zeros v 1 3) (three-zeros v ∙ k);
-        }
-    go false e k =
-        let p = chain-part (eqb (v 0) 1) (ltb (v 1) 8 ∷ ltb (v 2) 2 ∷ scaleFormed (v 3) ∷ []) k in
-        let one : eqb (v 0) 1 ≡ true = chain-first (eqb (v 0) 1) (ltb (v 1) 8 ∷ ltb (v 2) 2 ∷ scaleFormed (v 3) ∷ []) k in
-        record {
-          presence = small (v 0) 1 2 one (omega arith);
-          input = p 0;
-          absolute = p 1;
-          scale = p 2;
-          missing = or-first (eqb (v 0) 1) (zeros v 1 3) one;
-        }
+lookup-parts v h =
+    let cs : List Bool = ltb (v 1) 8 ∷ ltb (v 2) 2 ∷ scaleFormed (v 3) ∷ (eqb (v 0) 1 || zeros v 1 3) ∷ [] in
+    let c : (i : ℕ) → getD cs i true ≡ true = chain-part (ltb (v 0) 2) cs h in
+    record { presence = chain-first (ltb (v 0) 2) cs h; input = c 0; absolute = c 1; scale = c 2; missing = c 3 }
 
 lookup-made : (v : ℕ → ℕ) → Lookup v → lookupFormed v ≡ true
 unfolding lookupFormed
-lookup-made v f = go (eqb (v 0) 0) refl
-  where
-    go : (b : Bool) → eqb (v 0) 0 ≡ b → cond b (eqb (v 1) 0 && eqb (v 2) 0 && eqb (v 3) 0) (eqb (v 0) 1 && ltb (v 1) 8 && ltb (v 2) 2 && scaleFormed (v 3)) ≡ true
-    go true e =
-        ⊎-elim (λ o. absurd (let z : v 0 ≡ 0 = eqb-true (v 0) 0 e in let k : v 0 ≡ 1 = eqb-true (v 0) 1 o in omega arith))
-        (λ z. sym (three-zeros v) ∙ z)
-        (or-cases (eqb (v 0) 1) (zeros v 1 3) (f .missing))
-    go false e =
-        let n : v 0 ≡ 0 → ⊥ = eqb-false (v 0) 0 e in
-        let s : v 0 < 2 = ltb-true (v 0) 2 (f .presence) in
-        eq-eqb (v 0) 1 (omega arith) also f .input also f .absolute also f .scale
+lookup-made v f = f .presence also f .input also f .absolute also f .scale also f .missing
 
 -- the needs: 1 is half without view
 
@@ -85,7 +45,7 @@ half-view (suc (suc (suc (suc n)))) h = absurd (omega arith)
 -- a lit slot
 
 light-is : (v : ℕ → ℕ) → (paddingZero v ≡ true) → (ltb (v 32) 128 ≡ true) → (ltb (v 33) 8 ≡ true) → ((bitAt (v 32) 16 || zeros v 28 2) ≡ true) → lightFormed v ≡ true
-unfolding lightFormed paddingZero zeros every
+unfolding lightFormed lightPadded vectorsPadded paddingZero zeros every
 light-is v p f n d =
     let cs : List Bool = eqb (v 7) 0 ∷ eqb (v 11) 0 ∷ eqb (v 15) 0 ∷ eqb (v 19) 0 ∷ eqb (v 23) 0 ∷ eqb (v 27) 0 ∷ (eqb (v 30) 0 && eqb (v 31) 0) ∷ (eqb (v 34) 0 && eqb (v 35) 0) ∷ [] in
     let c : (i : ℕ) → getD cs i true ≡ true = chain-part (eqb (v 3) 0) cs p in
@@ -111,7 +71,7 @@ record Light (v : ℕ → ℕ) : Type 0 where
   without : (bitAt (v 32) 16 || zeros v 28 2) ≡ true
 
 light-parts : (v : ℕ → ℕ) → lightFormed v ≡ true → Light v
-unfolding lightFormed paddingZero zeros every
+unfolding lightFormed lightPadded vectorsPadded paddingZero zeros every
 light-parts v h =
     let cs : List Bool = eqb (v 7) 0 ∷ eqb (v 11) 0 ∷ eqb (v 15) 0 ∷ eqb (v 19) 0 ∷ eqb (v 23) 0 ∷ eqb (v 27) 0 ∷ eqb (v 30) 0 ∷ eqb (v 31) 0 ∷ eqb (v 34) 0 ∷ eqb (v 35) 0 ∷ ltb (v 32) 128 ∷ ltb (v 33) 8 ∷ (bitAt (v 32) 16 || (eqb (v 28) 0 && eqb (v 29) 0)) ∷ [] in
     let c : (i : ℕ) → getD cs i true ≡ true = chain-part (eqb (v 3) 0) cs h in

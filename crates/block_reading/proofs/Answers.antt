@@ -6,23 +6,18 @@ use mathlib.Core.Bool.{Bool, true, false, cond, _||_}
 use mathlib.Core.List.{List}
 use lib.Dec.{eqb}
 use lib.ListN.{length}
-use borrow.Author.Tests.{eqb-true}
 use Rattle.refusals.specs.Lengths.{blockRefusal, _else_}
 use Rattle.lighting.specs.declared.Lighting.{Lighting}
-use Rattle.lighting.specs.declared.OptionalLighting.{OptionalLighting}
 use Rattle.lighting.specs.Blank.{blankLighting}
 use Rattle.block.specs.declared.BlockForm.{BlockForm}
-use Rattle.block.specs.declared.BlockForm.the-variants.{Off, NotWellFormed, NanFree, WithNan}
 use Rattle.block.specs.Formed.{words, allZero, wellFormed}
 use Rattle.block.specs.Reading.{lightingOf, off, on, readingOf}
 use Rattle.block.specs.Answers.{nanFree, formOf, blockForm, wordsRefusal, Read, read, readRefusal, reads}
 use Rattle.block.specs.TestLaws.{never}
-use Rattle.block_reading.specs.Answer.{formRefusal, isLit}
+use Rattle.block_reading.specs.Answer.{formRefusal, isLit, isPlain}
+use Rattle.block_reading.specs.AnswerLaws.{formBy, is-lit, is-plain}
 
--- the form, the refusal and the answer by the tests: of the right length, all zero, well formed, free of NaN
-
-abbrev formBy : Bool → Bool → Bool → Bool → BlockForm
-formBy sized zero formed free = cond sized (cond zero Off (cond formed (cond free NanFree WithNan) NotWellFormed)) NotWellFormed
+-- the refusal and the answer by the tests: of the right length, all zero, well formed
 
 abbrev refusalBy : Bool → Bool → Bool → ℕ
 refusalBy sized zero formed = cond sized 0 6 else cond (zero || formed) 0 7
@@ -32,13 +27,9 @@ readsBy sized zero formed l =
     read (refusalBy sized zero formed) (cond (eqb (refusalBy sized zero formed) 0) (cond zero off (on l)) off)
 
 module _ (b : List ℕ) (f : BlockForm) (form : f ≡ blockForm b) (lit : Bool) (told : lit ≡ isLit f) where
-  pub lit-length : lit ≡ true → length b ≡ 328
-  unfolding isLit blockForm
-  lit-length h = go (eqb (length b) 328) refl (rw form at (sym told ∙ h))
-    where
-      go : (x : Bool) → eqb (length b) 328 ≡ x → isLit (cond x (formOf (words b)) NotWellFormed) ≡ true → length b ≡ 328
-      go true e k = eqb-true (length b) 328 e
-      go false e k = never k
+  -- what reading a lighting asks for
+  pub can-read : lit ≡ true → (p : Bool) → p ≡ isPlain f → (length b ≡ 328) × (p ≡ true → nanFree (words b) ≡ true)
+  can-read h p e = (is-lit b (rw form at (sym told ∙ h)) .sized, λ k. is-plain b (rw form at (sym e ∙ k)))
 
   module _ (number : ℕ) (refused : number ≡ formRefusal f (length b)) (l : Lighting) where
     pub read-lit : lit ≡ true → l ≡ lightingOf (words b) → read number (on l) ≡ reads b

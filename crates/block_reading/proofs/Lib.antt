@@ -1,3 +1,4 @@
+mod Plain
 mod Parts
 mod Lights
 mod Answers

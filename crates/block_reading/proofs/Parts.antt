@@ -1,21 +1,20 @@
 -- A light and a lighting whose parts are known. A vector's place in a light is its place in the block less the light's, and the lowest bit
 -- of a word is the word over 1 by 2. Assumes nothing.
-use Prim.Native.Nat.{ℕ, _+_, _/_, _%_}
+use Prim.Native.Nat.{ℕ, _+_, _%_}
 use native.Mathlib.Nat.{add-zero, add-assoc, div-one}
 use mathlib.Core.Path.{_≡_, refl}
 use mathlib.Core.List.{List}
 use lib.Dec.{eqb}
 use lib.Ieee.{Float}
-use Rattle.lighting.specs.declared.Lookup.{Lookup}
-use Rattle.lighting.specs.declared.OptionalLookup.{OptionalLookup}
-use Rattle.lighting.specs.declared.Distance.{Distance}
-use Rattle.lighting.specs.declared.Bump.{Bump}
-use Rattle.lighting.specs.declared.OptionalShadow.{OptionalShadow}
 use Rattle.lighting.specs.declared.LightNumber.{LightNumber}
+use Rattle.lighting.specs.declared.Distance.{Distance}
 use Rattle.lighting.specs.declared.Light.{Light}
 use Rattle.lighting.specs.declared.Lighting.{Lighting}
 use Rattle.block.specs.Formed.{from, bitAt}
-use Rattle.block.specs.Reading.{bumpOf, shadowOf, lookupOf, optionalLookupOf, vectorOf, distanceOf, lightOf, lightsOf, lightingOf}
+use Rattle.block.specs.Reading.{vectorOf, distanceOf, lightOf, lightingWith}
+use Rattle.block_reading.specs.declared.Settings.{Settings}
+use Rattle.block_reading.specs.declared.Lookups.{Lookups}
+use Rattle.block_reading.specs.Parts.{settingsOf, lookupsOf}
 
 pub vector-from : (w : ℕ → ℕ) (i j : ℕ) → vectorOf w (i + j) ≡ vectorOf (from w i) j
 unfolding vectorOf
@@ -25,7 +24,10 @@ pub vector-first : (w : ℕ → ℕ) (i : ℕ) → vectorOf w i ≡ vectorOf (fr
 unfolding vectorOf
 vector-first w i = rw (add-zero i) refl
 
-pub light-made : (v : ℕ → ℕ) (a b c d e f g : List Float) (h : Distance) (n : LightNumber) → a ≡ vectorOf v 0
+abbrev pub numbered : ℕ → LightNumber
+numbered n = record { 0 = n }
+
+pub light-made : (v : ℕ → ℕ) (a b c d e f g : List Float) (h : Distance) (n : LightNumber) (k : ℕ) → a ≡ vectorOf v 0
     → b ≡ vectorOf v 4
     → c ≡ vectorOf v 8
     → d ≡ vectorOf v 12
@@ -33,7 +35,8 @@ pub light-made : (v : ℕ → ℕ) (a b c d e f g : List Float) (h : Distance) (
     → f ≡ vectorOf v 20
     → g ≡ vectorOf v 24
     → h ≡ distanceOf v
-    → n ≡ record { 0 = v 33 }
+    → n ≡ numbered (v 33)
+    → k ≡ v 32
     → _≡_ {A = Light} (record {
       specular0 = a;
       specular1 = b;
@@ -42,49 +45,42 @@ pub light-made : (v : ℕ → ℕ) (a b c d e f g : List Float) (h : Distance) (
       position = e;
       direction = f;
       spot = g;
-      directional = eqb (v 32 % 2) 1;
-      «two_sided» = bitAt (v 32) 2;
-      geometric0 = bitAt (v 32) 4;
-      geometric1 = bitAt (v 32) 8;
+      directional = eqb (k % 2) 1;
+      «two_sided» = bitAt k 2;
+      geometric0 = bitAt k 4;
+      geometric1 = bitAt k 8;
       distance = h;
-      spotlight = bitAt (v 32) 32;
-      shadowed = bitAt (v 32) 64;
+      spotlight = bitAt k 32;
+      shadowed = bitAt k 64;
       number = n;
     }) (lightOf v)
 unfolding lightOf
-light-made v a b c d e f g h n p0 p1 p2 p3 p4 p5 p6 p7 p8 = rw (p0, p1, p2, p3, p4, p5, p6, p7, p8, div-one (v 32)) refl
+light-made v a b c d e f g h n k p0 p1 p2 p3 p4 p5 p6 p7 p8 p9 = rw (p0, p1, p2, p3, p4, p5, p6, p7, p8, p9, div-one (v 32)) refl
 
-pub lighting-made : (w : ℕ → ℕ) (ls : List Light) (a : List Float) (d0 d1 f r g b : OptionalLookup) (s : Lookup) (m : Bump) (h : OptionalShadow)
-    → ls ≡ lightsOf w
+pub lighting-made : (w : ℕ → ℕ) (s : Settings) (o : Lookups) (ls : List Light) (n : ℕ) (a : List Float)
+    → s ≡ settingsOf w
+    → o ≡ lookupsOf w
+    → n ≡ w 1
     → a ≡ vectorOf w 36
-    → d0 ≡ optionalLookupOf (from w 8)
-    → d1 ≡ optionalLookupOf (from w 12)
-    → f ≡ optionalLookupOf (from w 16)
-    → r ≡ optionalLookupOf (from w 20)
-    → g ≡ optionalLookupOf (from w 24)
-    → b ≡ optionalLookupOf (from w 28)
-    → s ≡ lookupOf (from w 32)
-    → m ≡ bumpOf (w 2)
-    → h ≡ shadowOf (w 3)
     → _≡_ {A = Lighting} (record {
       lights = ls;
-      «light_count» = w 1;
+      «light_count» = n;
       «global_ambient» = a;
-      config = w 0;
-      distribution0 = d0;
-      distribution1 = d1;
-      fresnel = f;
-      «reflect_red» = r;
-      «reflect_green» = g;
-      «reflect_blue» = b;
-      spotlight = s;
-      «fresnel_primary» = eqb (w 4) 1;
-      «fresnel_secondary» = eqb (w 5) 1;
-      «clamp_highlights» = eqb (w 6) 1;
-      «needs_half» = eqb (w 7 % 2) 1;
-      «needs_view» = bitAt (w 7) 2;
-      bump = m;
-      shadow = h;
-    }) (lightingOf w)
-unfolding lightingOf
-lighting-made w ls a d0 d1 f r g b s m h p0 p1 p2 p3 p4 p5 p6 p7 p8 p9 p10 = rw (p0, p1, p2, p3, p4, p5, p6, p7, p8, p9, p10, div-one (w 7)) refl
+      config = s .config;
+      distribution0 = o .distribution0;
+      distribution1 = o .distribution1;
+      fresnel = o .fresnel;
+      «reflect_red» = o .«reflect_red»;
+      «reflect_green» = o .«reflect_green»;
+      «reflect_blue» = o .«reflect_blue»;
+      spotlight = o .spotlight;
+      «fresnel_primary» = s .«fresnel_primary»;
+      «fresnel_secondary» = s .«fresnel_secondary»;
+      «clamp_highlights» = s .«clamp_highlights»;
+      «needs_half» = s .«needs_half»;
+      «needs_view» = s .«needs_view»;
+      bump = s .bump;
+      shadow = s .shadow;
+    }) (lightingWith w ls)
+unfolding settingsOf lookupsOf
+lighting-made w s o ls n a p q t u = rw (p, q, t, u) refl

@@ -24,3 +24,10 @@ isLit Off = false
 isLit NotWellFormed = false
 isLit NanFree = true
 isLit WithNan = true
+
+-- whether a block of this form reads as a lighting, and no word is a NaN's pattern
+unfoldable pub isPlain : BlockForm → Bool
+isPlain Off = false
+isPlain NotWellFormed = false
+isPlain NanFree = true
+isPlain WithNan = false

@@ -1,7 +1,7 @@
--- `block_check::head_formed` meets its contract: it is the definition. Assumes nothing.
-use borrow.Author.Needs.{needs}
+-- `block_check::head_formed` meets its contract: it is the definition, of the words that are read. Assumes nothing.
 use mathlib.Core.Path.{refl}
 use Rattle.block_check.specs.Parts.{headFormed}
+use borrow.Author.Needs.{needs}
 use Rattle.block_check.proofs.head_formed.Statement.{statement}
 use Rattle.block_check.proofs.head_formed.Tie as tie
 
@@ -11,15 +11,15 @@ settings-formed-requires c κs = search needs
 lookups-formed-requires : tie.Need-lookups-formed-requires
 lookups-formed-requires c κs = search needs
 
-shared-slice-read-result : tie.Need-shared-slice-read-result
-shared-slice-read-result c = search needs
+word-requires : tie.Need-word-requires
+word-requires c κs = search needs
 
-shared-slice-read-result-2 : tie.Need-shared-slice-read-result-2
-shared-slice-read-result-2 c = search needs
+word-requires-2 : tie.Need-word-requires-2
+word-requires-2 c κs = search needs
 
 returns : tie.Need-returns
 unfolding headFormed
-returns c = rw (c .before .before .before .settings-formed .ensures, c .before .before .lookups-formed .ensures) refl
+returns c = rw (c .before .before .before .settings-formed .ensures, c .before .before .lookups-formed .ensures, c .before .word .ensures, c .word2 .ensures) refl
 
 pub head-formed-spec : {M : Type 1} → statement M
 head-formed-spec =
@@ -27,6 +27,6 @@ head-formed-spec =
     (tie.spec
     settings-formed-requires
     lookups-formed-requires
-    shared-slice-read-result
-    shared-slice-read-result-2
+    word-requires
+    word-requires-2
     returns)

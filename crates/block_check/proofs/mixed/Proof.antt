@@ -1,33 +1,31 @@
 -- `block_check::mixed` meets its contract. The loop's invariant: the OR of the first k words is zero exactly if they are. Assumes nothing.
-use mathlib.Core.Path.{_≡_, refl}
-use Prim.Native.Nat.{_+_, _≤_, _-_}
+use mathlib.Core.Path.{_≡_, refl, ap}
+use Prim.Native.Nat.{_≤_, _-_}
 use native.Mathlib.Numerals.{add-one}
 use native.Mathlib.Omega.{arith}
-use borrow.Author.Needs.{needs}
 use lib.Dec.{eqb}
+use Rattle.sources.specs.Sources.{given}
 use Rattle.block.specs.Formed.{words, every, zeros}
 use Rattle.block_check.proofs.Words.{or-more}
+use borrow.Author.Needs.{needs}
 use Rattle.block_check.proofs.mixed.Statement.{statement}
 use Rattle.block_check.proofs.mixed.Tie as tie
 
 abbrev Inv-loop : tie.InvT-loop
-Inv-loop block from count bits₀ k₀ bits k = (k ≤ count) × (eqb bits 0 ≡ zeros (words block) from k)
+Inv-loop block bytes from count bits₀ k₀ bits k = (k ≤ count) × (eqb bits 0 ≡ zeros (words (given block bytes)) from k)
 
 abbrev μ-loop : tie.MeasureT-loop
-μ-loop block from count bits₀ k₀ bits k = count - k
+μ-loop block bytes from count bits₀ k₀ bits k = count - k
 
 loop-holds : tie.Need-loop-holds Inv-loop μ-loop
 unfolding zeros every
 loop-holds c = (omega arith, refl)
 
-add-bits : tie.Need-add-bits Inv-loop μ-loop
-add-bits c = search needs
+add-word : tie.Need-add-word Inv-loop μ-loop
+add-word c = search needs
 
-mul-bits : tie.Need-mul-bits Inv-loop μ-loop
-mul-bits c = search needs
-
-shared-slice-read-bits : tie.Need-shared-slice-read-bits Inv-loop μ-loop
-shared-slice-read-bits c = search needs
+word-requires : tie.Need-word-requires Inv-loop μ-loop
+word-requires c κs = search needs
 
 add-k : tie.Need-add-k Inv-loop μ-loop
 add-k c = search needs
@@ -37,22 +35,12 @@ loop-less c = search needs
 
 loop-again : tie.Need-loop-again Inv-loop μ-loop
 unfolding zeros every
-loop-again c = (omega arith, rw add-one (or-more (c .before .before .loop .bits) (words (c .before .before .before .args .block .now) (c .before .before .before .args .from + c .before .before .loop .k)) _ _ (c .before .before .loop .inv .1) refl))
+loop-again c = (omega arith, rw add-one (or-more (c .before .before .loop .bits) (c .word .result) _ _ (c .before .before .loop .inv .1) (ap (λ n. eqb n 0) (c .word .ensures))))
 
 returns : tie.Need-returns Inv-loop μ-loop
-returns c = let e : c .before .loop .k ≡ c .before .before .args .count = omega arith in rw e at (c .before .loop .inv .1)
+returns c = let e : c .before .loop .k ≡ c .before .before .before .before .args .count = omega arith in rw e at (c .before .loop .inv .1)
 
 pub mixed-spec : {M : Type 1} → statement M
 mixed-spec =
     tie.close
-    (tie.spec
-    Inv-loop
-    μ-loop
-    loop-holds
-    add-bits
-    mul-bits
-    shared-slice-read-bits
-    add-k
-    loop-less
-    loop-again
-    returns)
+    (tie.spec Inv-loop μ-loop loop-holds add-word word-requires add-k loop-less loop-again returns)

@@ -1,33 +1,32 @@
--- `block_check::odd_nans` meets its contract. The loop's invariant: a bit is set exactly if one of the first k words is a NaN other than 7FC00000. Assumes nothing.
-use mathlib.Core.Path.{_≡_, refl}
+-- `block_check::odd_nans` meets its contract. The loop's invariant: a bit is set exactly if one of the first k words is another NaN than
+-- 7FC00000. Assumes nothing.
+use mathlib.Core.Path.{_≡_, refl, ap, _∙_}
 use Prim.Native.Nat.{_+_, _≤_, _-_}
 use native.Mathlib.Numerals.{add-one}
 use native.Mathlib.Omega.{arith}
-use borrow.Author.Needs.{needs}
 use lib.Dec.{eqb}
+use Rattle.sources.specs.Sources.{given}
 use Rattle.block.specs.Formed.{words, every, floatFormed}
 use Rattle.block_check.proofs.Words.{or-more}
+use borrow.Author.Needs.{needs}
 use Rattle.block_check.proofs.odd_nans.Statement.{statement}
 use Rattle.block_check.proofs.odd_nans.Tie as tie
 
 abbrev Inv-loop : tie.InvT-loop
-Inv-loop block from count bits₀ k₀ bits k = (k ≤ count) × (eqb bits 0 ≡ every k (λ j. floatFormed (words block (from + j))))
+Inv-loop block bytes from count bits₀ k₀ bits k = (k ≤ count) × (eqb bits 0 ≡ every k (λ j. floatFormed (words (given block bytes) (from + j))))
 
 abbrev μ-loop : tie.MeasureT-loop
-μ-loop block from count bits₀ k₀ bits k = count - k
+μ-loop block bytes from count bits₀ k₀ bits k = count - k
 
 loop-holds : tie.Need-loop-holds Inv-loop μ-loop
 unfolding every
 loop-holds c = (omega arith, refl)
 
-add-odd-nan-bit : tie.Need-add-odd-nan-bit Inv-loop μ-loop
-add-odd-nan-bit c = search needs
+add-word : tie.Need-add-word Inv-loop μ-loop
+add-word c = search needs
 
-mul-odd-nan-bit : tie.Need-mul-odd-nan-bit Inv-loop μ-loop
-mul-odd-nan-bit c = search needs
-
-shared-slice-read-odd-nan-bit : tie.Need-shared-slice-read-odd-nan-bit Inv-loop μ-loop
-shared-slice-read-odd-nan-bit c = search needs
+word-requires : tie.Need-word-requires Inv-loop μ-loop
+word-requires c κs = search needs
 
 odd-nan-bit-requires : tie.Need-odd-nan-bit-requires Inv-loop μ-loop
 odd-nan-bit-requires c κs = search needs
@@ -40,10 +39,10 @@ loop-less c = search needs
 
 loop-again : tie.Need-loop-again Inv-loop μ-loop
 unfolding every
-loop-again c = (omega arith, rw add-one (or-more (c .before .before .before .loop .bits) (c .odd-nan-bit .result) _ _ (c .before .before .before .loop .inv .1) (c .odd-nan-bit .ensures)))
+loop-again c = (omega arith, rw add-one (or-more (c .before .before .before .loop .bits) (c .odd-nan-bit .result) _ _ (c .before .before .before .loop .inv .1) (c .odd-nan-bit .ensures ∙ ap floatFormed (c .before .word .ensures))))
 
 returns : tie.Need-returns Inv-loop μ-loop
-returns c = let e : c .before .loop .k ≡ c .before .before .before .args .count = omega arith in rw e at (c .before .loop .inv .1)
+returns c = let e : c .before .loop .k ≡ c .before .before .before .before .args .count = omega arith in rw e at (c .before .loop .inv .1)
 
 pub odd-nans-spec : {M : Type 1} → statement M
 odd-nans-spec =
@@ -52,9 +51,8 @@ odd-nans-spec =
     Inv-loop
     μ-loop
     loop-holds
-    add-odd-nan-bit
-    mul-odd-nan-bit
-    shared-slice-read-odd-nan-bit
+    add-word
+    word-requires
     odd-nan-bit-requires
     add-k
     loop-less

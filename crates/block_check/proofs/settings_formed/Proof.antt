@@ -1,56 +1,55 @@
--- `block_check::settings_formed` meets its contract: it is the definition. Assumes nothing.
-use borrow.Author.Needs.{needs}
-use mathlib.Core.Path.{refl}
+-- `block_check::settings_formed` meets its contract: it is the definition, of the words that are read. Assumes nothing.
 use Rattle.block_check.specs.Parts.{settingsFormed}
+use borrow.Author.Needs.{needs}
 use Rattle.block_check.proofs.settings_formed.Statement.{statement}
 use Rattle.block_check.proofs.settings_formed.Tie as tie
 
-shared-slice-read-result : tie.Need-shared-slice-read-result
-shared-slice-read-result c = search needs
+word-requires : tie.Need-word-requires
+word-requires c κs = search needs
 
-shared-slice-read-bump-formed : tie.Need-shared-slice-read-bump-formed
-shared-slice-read-bump-formed c = search needs
+word-requires-2 : tie.Need-word-requires-2
+word-requires-2 c κs = search needs
 
 bump-formed-requires : tie.Need-bump-formed-requires
 bump-formed-requires c κs = search needs
 
-shared-slice-read-shadow-formed : tie.Need-shared-slice-read-shadow-formed
-shared-slice-read-shadow-formed c = search needs
+word-requires-3 : tie.Need-word-requires-3
+word-requires-3 c κs = search needs
 
 shadow-formed-requires : tie.Need-shadow-formed-requires
 shadow-formed-requires c κs = search needs
 
-shared-slice-read-result-2 : tie.Need-shared-slice-read-result-2
-shared-slice-read-result-2 c = search needs
+word-requires-4 : tie.Need-word-requires-4
+word-requires-4 c κs = search needs
 
-shared-slice-read-result-3 : tie.Need-shared-slice-read-result-3
-shared-slice-read-result-3 c = search needs
+word-requires-5 : tie.Need-word-requires-5
+word-requires-5 c κs = search needs
 
-shared-slice-read-result-4 : tie.Need-shared-slice-read-result-4
-shared-slice-read-result-4 c = search needs
+word-requires-6 : tie.Need-word-requires-6
+word-requires-6 c κs = search needs
 
-shared-slice-read-result-5 : tie.Need-shared-slice-read-result-5
-shared-slice-read-result-5 c = search needs
+word-requires-7 : tie.Need-word-requires-7
+word-requires-7 c κs = search needs
 
-shared-slice-read-result-6 : tie.Need-shared-slice-read-result-6
-shared-slice-read-result-6 c = search needs
+word-requires-8 : tie.Need-word-requires-8
+word-requires-8 c κs = search needs
 
 returns : tie.Need-returns
 unfolding settingsFormed
-returns c = rw (c .before .before .before .before .before .before .before .bump-formed .ensures, c .before .before .before .before .before .shadow-formed .ensures) refl
+returns c = cc
 
 pub settings-formed-spec : {M : Type 1} → statement M
 settings-formed-spec =
     tie.close
     (tie.spec
-    shared-slice-read-result
-    shared-slice-read-bump-formed
+    word-requires
+    word-requires-2
     bump-formed-requires
-    shared-slice-read-shadow-formed
+    word-requires-3
     shadow-formed-requires
-    shared-slice-read-result-2
-    shared-slice-read-result-3
-    shared-slice-read-result-4
-    shared-slice-read-result-5
-    shared-slice-read-result-6
+    word-requires-4
+    word-requires-5
+    word-requires-6
+    word-requires-7
+    word-requires-8
     returns)

@@ -1,65 +1,55 @@
 -- `block_reading::distance_of` meets its contract: its test is the definition's. Assumes nothing.
+use mathlib.Core.Path.{refl}
 use borrow.Author.Tests.{eq-eqb, ne-eqb}
+use Prim.Native.Nat.{_/_, _%_}
 use Rattle.block.specs.Reading.{distanceOf}
 use borrow.Author.Needs.{needs}
 use Rattle.block_reading.proofs.distance_of.Statement.{statement}
 use Rattle.block_reading.proofs.distance_of.Tie as tie
 
-add-if1 : tie.Need-add-if1
-add-if1 c = search needs
+add-word : tie.Need-add-word
+add-word c = search needs
 
-mul-if1 : tie.Need-mul-if1
-mul-if1 c = search needs
+word-requires : tie.Need-word-requires
+word-requires c κs = search needs
 
-shared-slice-read-if1 : tie.Need-shared-slice-read-if1
-shared-slice-read-if1 c = search needs
+add-word-2 : tie.Need-add-word-2
+add-word-2 c = search needs
 
-add-float-of : tie.Need-add-float-of
-add-float-of c = search needs
-
-mul-float-of : tie.Need-mul-float-of
-mul-float-of c = search needs
-
-shared-slice-read-float-of : tie.Need-shared-slice-read-float-of
-shared-slice-read-float-of c = search needs
+word-requires-2 : tie.Need-word-requires-2
+word-requires-2 c κs = search needs
 
 float-of-requires : tie.Need-float-of-requires
 float-of-requires c κs = search needs
 
-add-float-of-2 : tie.Need-add-float-of-2
-add-float-of-2 c = search needs
+add-word-3 : tie.Need-add-word-3
+add-word-3 c = search needs
 
-mul-float-of-2 : tie.Need-mul-float-of-2
-mul-float-of-2 c = search needs
-
-shared-slice-read-float-of-2 : tie.Need-shared-slice-read-float-of-2
-shared-slice-read-float-of-2 c = search needs
+word-requires-3 : tie.Need-word-requires-3
+word-requires-3 c κs = search needs
 
 float-of-requires-2 : tie.Need-float-of-requires-2
 float-of-requires-2 c κs = search needs
 
 returns : tie.Need-returns
 unfolding distanceOf
-returns c = simp (eq-eqb _ _ (c .before .before .before .before .if1 .taken), c .before .before .float-of .ensures, c .float-of2 .ensures)
+returns c = rw (← c .before .before .before .before .before .word .ensures, eq-eqb (c .before .before .before .before .before .word .result / 16 % 2) 1 (c .before .before .before .before .if1 .taken), c .before .before .float-of .ensures, c .before .before .before .word2 .ensures, c .float-of2 .ensures, c .before .word3 .ensures) refl
 
 returns-2 : tie.Need-returns-2
 unfolding distanceOf
-returns-2 c = simp (ne-eqb _ _ (c .if1 .left))
+returns-2 c = rw (← c .before .word .ensures, ne-eqb (c .before .word .result / 16 % 2) 1 (c .if1 .left)) refl
 
 pub distance-of-spec : {M : Type 1} → statement M
 distance-of-spec =
     tie.close
     (tie.spec
-    add-if1
-    mul-if1
-    shared-slice-read-if1
-    add-float-of
-    mul-float-of
-    shared-slice-read-float-of
+    add-word
+    word-requires
+    add-word-2
+    word-requires-2
     float-of-requires
-    add-float-of-2
-    mul-float-of-2
-    shared-slice-read-float-of-2
+    add-word-3
+    word-requires-3
     float-of-requires-2
     returns
     returns-2)

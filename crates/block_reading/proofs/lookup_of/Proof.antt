@@ -5,52 +5,40 @@ use borrow.Author.Needs.{needs}
 use Rattle.block_reading.proofs.lookup_of.Statement.{statement}
 use Rattle.block_reading.proofs.lookup_of.Tie as tie
 
-add-t3 : tie.Need-add-t3
-add-t3 c = search needs
+add-word : tie.Need-add-word
+add-word c = search needs
 
-mul-t4 : tie.Need-mul-t4
-mul-t4 c = search needs
+word-requires : tie.Need-word-requires
+word-requires c κs = search needs
 
-shared-slice-read-t6 : tie.Need-shared-slice-read-t6
-shared-slice-read-t6 c = search needs
+add-word-2 : tie.Need-add-word-2
+add-word-2 c = search needs
 
-add-t7 : tie.Need-add-t7
-add-t7 c = search needs
+word-requires-2 : tie.Need-word-requires-2
+word-requires-2 c κs = search needs
 
-mul-t8 : tie.Need-mul-t8
-mul-t8 c = search needs
+add-word-3 : tie.Need-add-word-3
+add-word-3 c = search needs
 
-shared-slice-read-t10 : tie.Need-shared-slice-read-t10
-shared-slice-read-t10 c = search needs
-
-add-float-of : tie.Need-add-float-of
-add-float-of c = search needs
-
-mul-float-of : tie.Need-mul-float-of
-mul-float-of c = search needs
-
-shared-slice-read-float-of : tie.Need-shared-slice-read-float-of
-shared-slice-read-float-of c = search needs
+word-requires-3 : tie.Need-word-requires-3
+word-requires-3 c κs = search needs
 
 float-of-requires : tie.Need-float-of-requires
 float-of-requires c κs = search needs
 
 returns : tie.Need-returns
 unfolding lookupOf
-returns c = rw (c .float-of .ensures) refl
+returns c = rw (c .before .before .before .word .ensures, c .before .before .word2 .ensures, c .float-of .ensures, c .before .word3 .ensures) refl
 
 pub lookup-of-spec : {M : Type 1} → statement M
 lookup-of-spec =
     tie.close
     (tie.spec
-    add-t3
-    mul-t4
-    shared-slice-read-t6
-    add-t7
-    mul-t8
-    shared-slice-read-t10
-    add-float-of
-    mul-float-of
-    shared-slice-read-float-of
+    add-word
+    word-requires
+    add-word-2
+    word-requires-2
+    add-word-3
+    word-requires-3
     float-of-requires
     returns)
