@@ -1,4 +1,2 @@
-mod Cases
-mod Rows
 mod Parts
 mod Answers

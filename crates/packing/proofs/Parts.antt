@@ -1,19 +1,19 @@
--- A head, a light and the slots, put part by part. The parts stand one after another as the definition has them. Assumes nothing.
-use Prim.Native.Nat.{ℕ, suc, _+_, _*_, _<_, _≤_}
+-- A head and the slots, put part by part. The parts stand one after another as the definition has them. Assumes nothing.
+use Prim.Native.Nat.{ℕ, _+_, _*_}
 use native.Mathlib.Numerals.{add-one}
-use native.Mathlib.Omega.{arith}
-use mathlib.Core.Path.{_≡_, refl, sym, ap, _∙_}
+use mathlib.Core.Path.{_≡_, refl, sym, _∙_}
 use mathlib.Core.Bool.{cond}
-use mathlib.Core.List.{List, [], _∷_, _++_}
+use mathlib.Core.List.{List, [], _∷_}
 use lib.ListN.{length, replicate}
 use lib.Dec.{ltb}
 use Rattle.lighting.specs.declared.Light.{Light}
 use Rattle.lighting.specs.declared.Lighting.{Lighting}
-use Rattle.block.specs.Words.{bitOf, flagOf, bumpWord, shadowWord, lookupWords, vectorWords, headWords, biasWord, distanceScaleWord, flagsWord, lightWords, lightAt, slotWords, slotsWords, packed}
+use Rattle.block.specs.Words.{bitOf, flagOf, bumpWord, shadowWord, lookupWords, vectorWords, headWords, lightWords, lightAt, slotWords, slotsWords, packed}
 use Rattle.block.specs.Formed.{slotAt}
 use Rattle.block.specs.ListLaws.{length-head, length-slots, length-packed}
-use Rattle.packing.specs.Put.{put, lookupsWords, coloursWords, placesWords}
-use Rattle.packing.proofs.Rows.{put-append, length-put, after, whole}
+use Rattle.block_words.specs.Put.{put}
+use Rattle.packing.specs.Parts.{lookupsWords}
+use Rattle.block_words.specs.PutLaws.{after, whole}
 
 pub head-put : (l : Lighting) (b b1 b2 b3 b4 : List ℕ) (m s h v : ℕ)
     → m ≡ bumpWord (l .bump)
@@ -28,17 +28,6 @@ pub head-put : (l : Lighting) (b b1 b2 b3 b4 : List ℕ) (m s h v : ℕ)
 unfolding headWords lookupsWords lookupWords vectorWords
 head-put l b b1 b2 b3 b4 m s h v em es eh ev e1 e2 e3 e4 =
     after _ _ _ 0 36 _ _ refl (after _ _ _ 0 8 _ _ refl (after _ _ _ 0 4 _ _ refl (rw (em, es) at e1) (rw (eh, ev) at e2)) e3) e4
-
-pub light-put : (l : Light) (at : ℕ) (b b1 b2 b3 b4 : List ℕ) (f : ℕ)
-    → f ≡ flagsWord l
-    → b1 ≡ put b at (coloursWords l)
-    → b2 ≡ put b1 (at + 16) (placesWords l)
-    → b3 ≡ put b2 (at + 28) (biasWord (l .distance) ∷ distanceScaleWord (l .distance) ∷ 0 ∷ 0 ∷ [])
-    → b4 ≡ put b3 (at + 32) (f ∷ l .number .0 ∷ 0 ∷ 0 ∷ [])
-    → b4 ≡ put b at (lightWords l)
-unfolding lightWords coloursWords placesWords vectorWords
-light-put l at b b1 b2 b3 b4 f ef e1 e2 e3 e4 =
-    after _ _ _ at 32 _ _ refl (after _ _ _ at 28 _ _ refl (after _ _ _ at 16 _ _ refl e1 e2) e3) (rw ef at e4)
 
 pub none-put : (l : Lighting) (b : List ℕ) → b ≡ put b 40 (slotsWords l 0)
 unfolding put slotsWords

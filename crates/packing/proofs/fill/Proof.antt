@@ -1,14 +1,14 @@
 -- `packing::fill` meets its contract. The loop's invariant: after the head the first s slots are put. Assumes nothing.
-use mathlib.Core.Path.{_≡_, refl, sym, ap, _∙_}
-use Prim.Native.Nat.{_+_, _≤_, _-_}
+use mathlib.Core.Path.{_≡_, sym, ap, _∙_}
+use Prim.Native.Nat.{_≤_, _-_}
 use native.Mathlib.Omega.{arith}
 use borrow.Author.Needs.{needs}
 use borrow.Author.Tests.{ltb-true}
 use lib.ListN.{length}
 use Rattle.block.specs.Words.{lightAt, slotsWords}
 use Rattle.block.specs.PackedLaws.{range-number}
-use Rattle.packing.specs.Put.{put}
-use Rattle.packing.proofs.Rows.{length-put}
+use Rattle.block_words.specs.Put.{put}
+use Rattle.block_words.specs.PutLaws.{length-put}
 use Rattle.packing.proofs.Parts.{none-put, slot-put, all-put}
 use Rattle.packing.proofs.fill.Statement.{statement}
 use Rattle.packing.proofs.fill.Tie as tie

@@ -5,7 +5,7 @@ use mathlib.Core.Path.{ap, _∙_}
 use native.Mathlib.Omega.{arith}
 use lib.ListN.{length}
 use Rattle.block.specs.PackedLaws.{range-bump, range-shadow, range-count}
-use Rattle.packing.proofs.Rows.{length-put}
+use Rattle.block_words.specs.PutLaws.{length-put}
 use Rattle.packing.proofs.Parts.{head-put}
 use Rattle.packing.proofs.put_head.Statement.{statement}
 use Rattle.packing.proofs.put_head.Tie as tie

@@ -2,8 +2,8 @@
 use borrow.Author.Needs.{needs}
 use mathlib.Core.Path.{refl}
 use Rattle.block.specs.Words.{lookupWords}
-use Rattle.packing.specs.Put.{lookupsWords}
-use Rattle.packing.proofs.Rows.{after}
+use Rattle.packing.specs.Parts.{lookupsWords}
+use Rattle.block_words.specs.PutLaws.{after}
 use Rattle.packing.proofs.put_lookups.Statement.{statement}
 use Rattle.packing.proofs.put_lookups.Tie as tie
 

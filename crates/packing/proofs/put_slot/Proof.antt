@@ -1,6 +1,5 @@
 -- `packing::put_slot` meets its contract: the part is a light's or zeros, as the definition has it. Assumes nothing.
 use borrow.Author.Needs.{needs}
-use native.Mathlib.Omega.{arith}
 use Rattle.packing.proofs.put_slot.Statement.{statement}
 use Rattle.packing.proofs.put_slot.Tie as tie
 
