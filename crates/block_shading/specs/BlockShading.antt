@@ -10,7 +10,7 @@ use Rattle.block.specs.Formed.{words}
 use Rattle.block.specs.Reading.{readingOf}
 use Rattle.block.specs.Answers.{wordsRefusal}
 use Rattle.shading.specs.Shade.{shadeOf}
-use Rattle.block_shading.specs.Fragment.{quaternionOf, viewOf, texelsOf}
+use Rattle.fragments.specs.Fragment.{quaternionOf, viewOf, texelsOf}
 
 -- what block shading gives: its number, and the answer slice afterwards
 pub record Shaded : Type 0 where

@@ -1,2 +1,3 @@
-pub mod Fragment
 pub mod BlockShading
+pub mod Answers
+pub mod AnswersLaws

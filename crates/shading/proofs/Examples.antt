@@ -30,7 +30,7 @@ use Rattle.shade_light.specs.Toward.{lightVector, halfOf, towardOf, offsetOf, a
 use Rattle.shade_lookups.specs.Lookups.{present, placeOf, inputOf, valueOf, valueIf, spotOf, fresnelOf, distancePlace, distanceBy, distanceOf, valuesBy, valuesOf}
 use Rattle.shade_sums.specs.Sums.{primaryOf, secondaryOf, alphaOf, diffuseOf, timesIf, specular0Of, reflectedOf, specular1Of, specularBy, specularOf, shadowFor, addedOf, summedOf, withLightBy, withLight, shadowedAlpha, finishOf}
 use Rattle.shade_step.specs.Step.{stepOf}
-use Rattle.shading.specs.Shade.{lookupsOf, settingsOf, sumsBy, sumsOf, lightingFrame, lightingShadow, shadeBy, shadeOf, coloursOf}
+use Rattle.shading.specs.Shade.{lookupsOf, settingsOf, sumsBy, sumsOf, lightingFrame, lightingShadow, finishedOf, shadeBy, shadeOf, coloursOf}
 
 abbrev half : Float
 half = floatOf 0x3f00_0000
@@ -127,7 +127,7 @@ record Cases : Type 0 where
   at-last : at (sumsOf [] two-lamps (frameOf Flat [] 0 false (float0 ∷ none) none) (float1 ∷ white) 2 .diffuse) 3 ≡ float0
 
 cases : Cases
-unfolding neg add sub mul div lt eq isNan ofInt ofBits toUnsigned toSigned rootOf magnitudeOf before maxOf minOf clampOf floorOf unsignedPlaceOf signedPlaceOf quantizedOf channelOf interpolated lookupOf plusOf minusOf timesOf overOf dotOf crossOf normalizedOf axisOf turnOf plusTwice rotateOf bumpUnit shadowUnit lengthOf quaternionOver unitQuaternion inverted shadowOf perturbed rebuiltZ rebuilt surfaceNormal surfaceTangent tangentOf unitIf frameOf lightVector halfOf towardOf offsetOf awayOf alongTangent inputsBy inputsOf facingOf highlightsOf factorBy factorOf placeOf inputOf valueOf valueIf spotOf fresnelOf distancePlace distanceBy distanceOf valuesBy valuesOf diffuseOf timesIf specular0Of reflectedOf specular1Of specularBy specularOf shadowFor addedOf summedOf withLightBy withLight shadowedAlpha finishOf present primaryOf secondaryOf alphaOf lookupsOf settingsOf stepOf sumsBy sumsOf lightingFrame lightingShadow shadeBy shadeOf coloursOf
+unfolding neg add sub mul div lt eq isNan ofInt ofBits toUnsigned toSigned rootOf magnitudeOf before maxOf minOf clampOf floorOf unsignedPlaceOf signedPlaceOf quantizedOf channelOf interpolated lookupOf plusOf minusOf timesOf overOf dotOf crossOf normalizedOf axisOf turnOf plusTwice rotateOf bumpUnit shadowUnit lengthOf quaternionOver unitQuaternion inverted shadowOf perturbed rebuiltZ rebuilt surfaceNormal surfaceTangent tangentOf unitIf frameOf lightVector halfOf towardOf offsetOf awayOf alongTangent inputsBy inputsOf facingOf highlightsOf factorBy factorOf placeOf inputOf valueOf valueIf spotOf fresnelOf distancePlace distanceBy distanceOf valuesBy valuesOf diffuseOf timesIf specular0Of reflectedOf specular1Of specularBy specularOf shadowFor addedOf summedOf withLightBy withLight shadowedAlpha finishOf present primaryOf secondaryOf alphaOf lookupsOf settingsOf stepOf sumsBy sumsOf lightingFrame lightingShadow finishedOf shadeBy shadeOf coloursOf
 cases =
     record {
       white-lamp = refl;

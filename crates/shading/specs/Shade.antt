@@ -79,10 +79,13 @@ lightingFrame l quaternion view texels =
 unfoldable pub lightingShadow : Lighting → List (List Float) → List Float
 lightingShadow l texels = shadowOf (l .shadow) (texelOf texels (shadowUnit (l .shadow)))
 
+-- the channels from the sums
+unfoldable pub finishedOf : Lighting → Sums → List Float → List ℕ
+finishedOf l sums shadow =
+    finishOf sums (alphaOf (l .shadow)) (l .«fresnel_primary») (l .«fresnel_secondary») shadow (l .«global_ambient»)
+
 unfoldable pub shadeBy : List ℕ → Lighting → Frame → List Float → List ℕ
-shadeBy tables l frame shadow =
-    finishOf (sumsOf tables l frame shadow (l .«light_count»)) (alphaOf (l .shadow)) (l .«fresnel_primary») (l .«fresnel_secondary»)
-    shadow (l .«global_ambient»)
+shadeBy tables l frame shadow = finishedOf l (sumsOf tables l frame shadow (l .«light_count»)) shadow
 
 -- the eight k: the primary colour's red, green, blue and alpha, then the secondary's
 unfoldable pub shadeOf : Lighting → List ℕ → List Float → List Float → List (List Float) → List ℕ

@@ -16,7 +16,7 @@ use Rattle.shade_lookups.specs.declared.Lookups.{Lookups}
 use Rattle.shade_sums.specs.declared.Settings.{Settings}
 use Rattle.shade_sums.specs.Sums.{addedOf, summedOf, withLightBy, withLight, shadowedAlpha, finishOf}
 use Rattle.shade_step.specs.Step.{stepOf}
-use Rattle.shading.specs.Shade.{settingsOf, sumsBy, sumsOf, shadeBy, shadeOf}
+use Rattle.shading.specs.Shade.{settingsOf, sumsBy, sumsOf, finishedOf, shadeBy, shadeOf}
 
 neither : (b : Bool) → (b && false) ≡ false
 neither true = refl
@@ -47,9 +47,9 @@ secondary-clear l shadow h = simp (h, neither)
 
 module _ (l : Lighting) (tables : List ℕ) (quaternion view : List Float) (texels : List (List Float)) where
   pub primary-alpha : l .«fresnel_primary» ≡ false → getD (shadeOf l tables quaternion view texels) 3 0 ≡ 255
-  unfolding shadeOf shadeBy finishOf sumsOf shadowedAlpha
+  unfolding shadeOf shadeBy finishedOf finishOf sumsOf shadowedAlpha
   primary-alpha h = simp (h, neither) (ap quantizedOf (diffuse-alpha tables _ _ _ _ _ (primary-clear l _ h) _) ∙ one)
 
   pub secondary-alpha : l .«fresnel_secondary» ≡ false → getD (shadeOf l tables quaternion view texels) 7 0 ≡ 255
-  unfolding shadeOf shadeBy finishOf sumsOf shadowedAlpha
+  unfolding shadeOf shadeBy finishedOf finishOf sumsOf shadowedAlpha
   secondary-alpha h = simp (h, neither) (ap quantizedOf (specular-alpha tables _ _ _ _ _ (secondary-clear l _ h) _) ∙ one)

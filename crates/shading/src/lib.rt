@@ -9,7 +9,7 @@ ghost use Rattle.block.specs.Answers.{inRange};
 ghost use Rattle.shading.specs.Numbered.{Numbered};
 ghost use Rattle.shading.specs.Answers.{shading, shades};
 ghost use Rattle.sources.specs.Sources.{given};
-ghost use Rattle.shading.specs.Shade.{lookupsOf, settingsOf, sumsBy, lightingFrame, lightingShadow, texelOf, shadeBy, shadeOf};
+ghost use Rattle.shading.specs.Shade.{lookupsOf, settingsOf, sumsBy, lightingFrame, lightingShadow, texelOf, finishedOf, shadeBy, shadeOf};
 use lighting::Light;
 use lighting::Lighting;
 use lighting::Slot;
@@ -20,7 +20,7 @@ use shade_sums::Settings;
 use shade_sums::Sums;
 use shade_surface::Frame;
 
-fn lookups_of(l: Lighting) -> Lookups
+pub fn lookups_of(l: Lighting) -> Lookups
     ensures { λ r. ⌜ r ≡ lookupsOf l ⌝ }
 {
     let distribution0 = l.distribution0;
@@ -43,7 +43,7 @@ fn lookups_of(l: Lighting) -> Lookups
     }
 }
 
-fn settings_of(l: Lighting, texel: [f32; 4]) -> Settings
+pub fn settings_of(l: Lighting, texel: [f32; 4]) -> Settings
     ensures { λ r. ⌜ r ≡ settingsOf l texel ⌝ }
 {
     let shadow = l.shadow;
@@ -60,7 +60,7 @@ fn settings_of(l: Lighting, texel: [f32; 4]) -> Settings
 }
 
 // Only the last slot lit applies fresnel.
-fn is_last(slot: Slot, count: usize) -> bool
+pub fn is_last(slot: Slot, count: usize) -> bool
     requires { ⌜ slot .0 < 8 ⌝ }
     ensures { λ r. ⌜ r ≡ eqb (slot .0 + 1) count ⌝ }
 {
@@ -118,14 +118,29 @@ fn shadow_of(l: Lighting, texels: [[f32; 4]; 4]) -> [f32; 4]
     shade_surface::shadow_texel(shadow, texel)
 }
 
+// The channels from the sums.
+pub fn finished(l: Lighting, sums: Sums, texel: [f32; 4]) -> [u32; 8]
+    ensures { λ r. ⌜ r ≡ finishedOf l sums texel ⌝ }
+{
+    let shadow = l.shadow;
+    let ambient = l.global_ambient;
+    let alpha = shade_sums::alpha_of(shadow);
+    shade_sums::finish(
+        sums,
+        alpha,
+        l.fresnel_primary,
+        l.fresnel_secondary,
+        texel,
+        ambient,
+    )
+}
+
 // From the frame and the shadow.
 fn shade_by(tables: &[u32], bytes: &[u8], l: Lighting, frame: Frame, texel: [f32; 4]) -> [u32; 8]
     requires { ⌜ (length (given (now tables) (now bytes)) ≡ 12288) × (inRange l ≡ true) ⌝ }
     ensures { λ r. ⌜ r ≡ shadeBy (given (now (tables .entry)) (now (bytes .entry))) l frame texel ⌝ }
 {
     let lights = l.lights;
-    let shadow = l.shadow;
-    let ambient = l.global_ambient;
     let lookups = lookups_of(l);
     let settings = settings_of(l, texel);
     let sums = sum_lights(
@@ -137,15 +152,7 @@ fn shade_by(tables: &[u32], bytes: &[u8], l: Lighting, frame: Frame, texel: [f32
         lights,
         l.light_count,
     );
-    let alpha = shade_sums::alpha_of(shadow);
-    shade_sums::finish(
-        sums,
-        alpha,
-        l.fresnel_primary,
-        l.fresnel_secondary,
-        texel,
-        ambient,
-    )
+    finished(l, sums, texel)
 }
 
 // The eight channels, 0 to 255, in the printed order, of a lighting in range and tables of the right length.
@@ -165,7 +172,8 @@ pub fn shaded(
     shade_by(tables, bytes, l, frame, shadow)
 }
 
-fn put(answer: &mut [u32], k: [u32; 8])
+// The eight channels into the answer slice.
+pub fn put(answer: &mut [u32], k: [u32; 8])
     requires { ⌜ length (now answer) ≡ 8 ⌝ }
     ensures { λ _. ⌜ now (answer .exit) ≡ k ⌝ }
 {

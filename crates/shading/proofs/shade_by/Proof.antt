@@ -26,18 +26,15 @@ settings-of-requires c κs = search needs
 
 sum-lights-requires : tie.Need-sum-lights-requires
 sum-lights-requires c κs =
-    let s = c .before .before .before .before .before .before in
+    let s = c .before .before .before .before .before in
     (s .pre .0, range-count (s .args .l) (s .pre .1), numbered (s .args .l) (s .pre .1))
 
-alpha-of-requires : tie.Need-alpha-of-requires
-alpha-of-requires c κs = search needs
-
-finish-requires : tie.Need-finish-requires
-finish-requires c κs = search needs
+finished-requires : tie.Need-finished-requires
+finished-requires c κs = search needs
 
 returns : tie.Need-returns
 unfolding shadeBy sumsOf
-returns c = simp (c .finish .ensures, c .before .alpha-of .ensures, c .before .before .sum-lights .ensures, c .before .before .before .settings-of .ensures, c .before .before .before .before .lookups-of .ensures)
+returns c = simp (c .finished .ensures, c .before .sum-lights .ensures, c .before .before .settings-of .ensures, c .before .before .before .lookups-of .ensures)
 
 pub shade-by-spec : {M : Type 1} → statement M
 shade-by-spec =
@@ -46,6 +43,5 @@ shade-by-spec =
     lookups-of-requires
     settings-of-requires
     sum-lights-requires
-    alpha-of-requires
-    finish-requires
+    finished-requires
     returns)

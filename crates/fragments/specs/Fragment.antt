@@ -1,5 +1,5 @@
 -- A fragment's 23 words: quaternion, view, and four texels of four channels each. Definitions only.
-use Prim.Native.Nat.{ℕ, _+_}
+use Prim.Native.Nat.{ℕ, _+_, _*_}
 use mathlib.Core.List.{List, [], _∷_}
 use lib.ListN.{getD}
 use lib.Ieee.{Float}
@@ -21,3 +21,7 @@ viewOf q = floatAt q 4 ∷ floatAt q 5 ∷ floatAt q 6 ∷ []
 
 unfoldable pub texelsOf : List ℕ → List (List Float)
 texelsOf q = fourAt q 7 ∷ fourAt q 11 ∷ fourAt q 15 ∷ fourAt q 19 ∷ []
+
+-- the texel of a unit
+abbrev pub texelAt : List ℕ → ℕ → List Float
+texelAt q unit = fourAt q (7 + 4 * unit)

@@ -1,0 +1,124 @@
+// The shading of a fragment from a block that was found well formed. The lights are read slot by slot, where they are needed, and the block, the tables
+// and the fragment come as words or as bytes.
+use block_reading::light_of;
+use lighting::Lighting;
+use lighting::Slot;
+use lighting::blank_light;
+use shade_lookups::Lookups;
+use shade_sums::Settings;
+use shade_sums::Sums;
+use shade_surface::Frame;
+ghost use mathlib.Core.Path.{_≡_};
+ghost use mathlib.Core.Bool.{true};
+ghost use Prim.Native.Nat.{_≤_};
+ghost use lib.ListN.{length};
+ghost use Rattle.sources.specs.Sources.{given};
+ghost use Rattle.fragments.specs.Fragment.{quaternionOf, viewOf, texelsOf};
+ghost use Rattle.block.specs.Formed.{words, wellFormed};
+ghost use Rattle.block.specs.Reading.{lightsOf, lightingOf};
+ghost use Rattle.block.specs.Answers.{bumpUnit, shadowUnit, nanFree};
+ghost use Rattle.slot_shading.specs.Head.{headOf};
+ghost use Rattle.shading.specs.Shade.{sumsBy, lightingFrame, lightingShadow, shadeOf};
+
+// The lighting but its lights, which stay blank.
+fn head_of(block: &[u32], bytes: &[u8], plain: bool) -> Lighting
+    requires { ⌜ (length (given (now block) (now bytes)) ≡ 328) × (plain ≡ true → nanFree (words (given (now block) (now bytes))) ≡ true) ⌝ }
+    ensures { λ r. ⌜ r ≡ headOf (words (given (now (block .entry)) (now (bytes .entry)))) ⌝ }
+{
+    let lights = [blank_light(); 8];
+    block_reading::lighting_with(block, bytes, plain, lights)
+}
+
+fn frame_of(l: Lighting, fragment: &[u32], bytes: &[u8]) -> Frame
+    requires { ⌜ (bumpUnit (l .bump) ≤ 3) × (length (given (now fragment) (now bytes)) ≡ 23) ⌝ }
+    ensures { λ r. ⌜ r ≡ lightingFrame l (quaternionOf (given (now (fragment .entry)) (now (bytes .entry)))) (viewOf (given (now (fragment .entry)) (now (bytes .entry)))) (texelsOf (given (now (fragment .entry)) (now (bytes .entry)))) ⌝ }
+{
+    let bump = l.bump;
+    let quaternion = fragments::quaternion_of(fragment, bytes);
+    let view = fragments::view_of(fragment, bytes);
+    let texel = fragments::texel_at(fragment, bytes, shade_surface::bump_unit(bump));
+    shade_surface::frame_of(bump, texel, l.config, l.needs_view, quaternion, view)
+}
+
+fn shadow_of(l: Lighting, fragment: &[u32], bytes: &[u8]) -> [f32; 4]
+    requires { ⌜ (shadowUnit (l .shadow) ≤ 3) × (length (given (now fragment) (now bytes)) ≡ 23) ⌝ }
+    ensures { λ r. ⌜ r ≡ lightingShadow l (texelsOf (given (now (fragment .entry)) (now (bytes .entry)))) ⌝ }
+{
+    let shadow = l.shadow;
+    let texel = fragments::texel_at(fragment, bytes, shade_surface::shadow_unit(shadow));
+    shade_surface::shadow_texel(shadow, texel)
+}
+
+// The sums of the lit slots. `plain` says that no word of the block is a NaN's pattern.
+fn sum_slots(
+    block: &[u32],
+    block_bytes: &[u8],
+    tables: &[u32],
+    table_bytes: &[u8],
+    plain: bool,
+    lookups: Lookups,
+    frame: Frame,
+    settings: Settings,
+    count: usize,
+) -> Sums
+    requires { ⌜ (length (given (now block) (now «block_bytes»)) ≡ 328) × (length (given (now tables) (now «table_bytes»)) ≡ 12288) ⌝ }
+    requires { ⌜ (wellFormed (words (given (now block) (now «block_bytes»))) ≡ true) × (count ≡ words (given (now block) (now «block_bytes»)) 1) ⌝ }
+    requires { ⌜ (plain ≡ true → nanFree (words (given (now block) (now «block_bytes»))) ≡ true) ⌝ }
+    ensures { λ r. ⌜ r ≡ sumsBy (given (now (tables .entry)) (now («table_bytes» .entry))) lookups frame settings (lightsOf (words (given (now (block .entry)) (now («block_bytes» .entry))))) count count ⌝ }
+{
+    let mut sums = Sums {
+        diffuse: [0.0, 0.0, 0.0, 1.0],
+        specular: [0.0, 0.0, 0.0, 1.0],
+    };
+    let mut i = 0;
+    while i < count {
+        let light = light_of(block, block_bytes, 40 + 36 * i, plain);
+        let last = shading::is_last(Slot(i), count);
+        sums = shade_step::step(
+            tables,
+            table_bytes,
+            lookups,
+            frame,
+            settings,
+            last,
+            light,
+            sums,
+        );
+        i += 1;
+    }
+    sums
+}
+
+// The eight channels, 0 to 255, in the printed order.
+pub fn shade_lit(
+    block: &[u32],
+    block_bytes: &[u8],
+    tables: &[u32],
+    table_bytes: &[u8],
+    fragment: &[u32],
+    fragment_bytes: &[u8],
+    plain: bool,
+) -> [u32; 8]
+    requires { ⌜ (length (given (now block) (now «block_bytes»)) ≡ 328) × (length (given (now tables) (now «table_bytes»)) ≡ 12288) × (length (given (now fragment) (now «fragment_bytes»)) ≡ 23) ⌝ }
+    requires { ⌜ wellFormed (words (given (now block) (now «block_bytes»))) ≡ true ⌝ }
+    requires { ⌜ (plain ≡ true → nanFree (words (given (now block) (now «block_bytes»))) ≡ true) ⌝ }
+    ensures { λ r. ⌜ r ≡ shadeOf (lightingOf (words (given (now (block .entry)) (now («block_bytes» .entry))))) (given (now (tables .entry)) (now («table_bytes» .entry))) (quaternionOf (given (now (fragment .entry)) (now («fragment_bytes» .entry)))) (viewOf (given (now (fragment .entry)) (now («fragment_bytes» .entry)))) (texelsOf (given (now (fragment .entry)) (now («fragment_bytes» .entry)))) ⌝ }
+{
+    let head = head_of(block, block_bytes, plain);
+    let frame = frame_of(head, fragment, fragment_bytes);
+    let shadow = shadow_of(head, fragment, fragment_bytes);
+    let lookups = shading::lookups_of(head);
+    let settings = shading::settings_of(head, shadow);
+    let sums = sum_slots(
+        block,
+        block_bytes,
+        tables,
+        table_bytes,
+        plain,
+        lookups,
+        frame,
+        settings,
+        head.light_count,
+    );
+    shading::finished(head, sums, shadow)
+}
