@@ -1,1 +1,2 @@
 pub mod Refuted
+pub mod Painted

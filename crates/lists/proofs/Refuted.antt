@@ -36,7 +36,7 @@ decoded-on f = go (lightingOn f)
     go false = refl
 
 -- the number that block shading is to answer with
-shade-on : (r e q a : List ℕ) → lightingOn r ≡ true → shadeFrom r e q a .number ≡ 0
+pub shade-on : (r e q a : List ℕ) → lightingOn r ≡ true → shadeFrom r e q a .number ≡ 0
 unfolding shadeFrom
 shade-on r e q a h = rw (decoded-on r ∙ h) refl
 
@@ -50,7 +50,7 @@ unfolding packedReading
 packed-off f h = rw (decoded-on f ∙ h) refl
 
 -- a hand-over with an empty cache, past its refusals by length
-first-block : (f t : List ℕ) (g : ℕ) (b ct : List ℕ) (cg : ℕ) → handOverIf 0 f t g freshCache b ct cg .block ≡ packedReading (decoded f)
+pub first-block : (f t : List ℕ) (g : ℕ) (b ct : List ℕ) (cg : ℕ) → handOverIf 0 f t g freshCache b ct cg .block ≡ packedReading (decoded f)
 unfolding handOverIf handOverRead taken refreshed current readAnew freshCache
 first-block f t g b ct cg = rw (decoded-packable f) (go (eqb g cg))
   where
@@ -58,7 +58,7 @@ first-block f t g b ct cg = rw (decoded-packable f) (go (eqb g cg))
     go true = refl
     go false = refl
 
-first-tables : (f t : List ℕ) (g : ℕ) (b ct : List ℕ) (cg : ℕ) → handOverIf 0 f t g freshCache b ct cg .tables ≡ cond (eqb g cg) ct t
+pub first-tables : (f t : List ℕ) (g : ℕ) (b ct : List ℕ) (cg : ℕ) → handOverIf 0 f t g freshCache b ct cg .tables ≡ cond (eqb g cg) ct t
 unfolding handOverIf handOverRead taken refreshed current readAnew freshCache
 first-tables f t g b ct cg = rw (decoded-packable f) (go (eqb g cg))
   where

@@ -8,7 +8,7 @@ use Rattle.tables.specs.Restore.{restore}
 use Rattle.unit.specs.declared.Cache.{Cache}
 use Rattle.unit.specs.CachedRead.{cachedRead}
 use Rattle.unit.specs.HandOver.{Handed, handed, handOver}
-use Rattle.block_shading.specs.BlockShading.{shaded, blockShading}
+use Rattle.block_shading.specs.BlockShading.{Shaded, shaded, blockShading}
 use Rattle.lists.specs.States.{Implementation}
 
 -- "A unit that refuses every write"
@@ -31,6 +31,20 @@ paintsOne colours =
       cachedRead = cachedRead;
       handOver = handOver;
       blockShading = λ b t q a. shaded 0 colours;
+    }
+
+-- the same of one that is right about refusals and off
+unfoldable pub painted : List ℕ → Shaded → Shaded
+painted colours s = cond (eqb (s .number) 0) (shaded 0 colours) s
+
+abbrev pub paintsLit : List ℕ → Implementation
+paintsLit colours =
+    record {
+      write = write;
+      restore = restore;
+      cachedRead = cachedRead;
+      handOver = handOver;
+      blockShading = λ b t q a. painted colours (blockShading b t q a);
     }
 
 -- "a hand-over that copies nothing": it reads and answers as ours
