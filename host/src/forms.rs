@@ -6,6 +6,7 @@
 use crate::blocks::{register_file, BLOCK_WORDS, OFF};
 use crate::patterns::{Random, ODD};
 use crate::NAN;
+use std::sync::LazyLock;
 
 unsafe extern "C" {
     fn block_form(words: *const u32, count: usize) -> u32;
@@ -221,28 +222,32 @@ pub fn compare_each() -> Tally {
     tally
 }
 
+/// A block with one to three of its words damaged, a third of the damages before the slots.
+pub fn damage(block: &[u32], r: &mut Random) -> Vec<u32> {
+    static DAMAGES: LazyLock<Vec<u32>> = LazyLock::new(damages);
+    let mut block = block.to_vec();
+    for _ in 0..=r.below(3) {
+        let words = if r.below(3) == 0 { SLOTS } else { BLOCK_WORDS };
+        let at = r.below(words as u32) as usize;
+        block[at] = match r.below(4) {
+            0 => r.word(),
+            1 => block[at] ^ 1 << r.below(32),
+            2 => block[r.below(BLOCK_WORDS as u32) as usize],
+            _ => DAMAGES[r.below(DAMAGES.len() as u32) as usize],
+        };
+    }
+    block
+}
+
 /// So many blocks of random register files, one to three words of each damaged.
 pub fn compare_random(blocks: u64, seed: u64) -> Tally {
-    let (checker, damages, mut r, mut tally) = (Checker::default(), damages(), Random(seed), Tally::default());
+    let (checker, mut r, mut tally) = (Checker::default(), Random(seed), Tally::default());
     let mut left = blocks;
     while left > 0 {
-        let mut block = packed(&register_file(&mut r));
+        let block = packed(&register_file(&mut r));
         // the same block serves a few times
         for _ in 0..left.min(32) {
-            let before = block.clone();
-            for _ in 0..=r.below(3) {
-                // a third of the damages falls on the words before the slots
-                let words = if r.below(3) == 0 { SLOTS } else { BLOCK_WORDS };
-                let at = r.below(words as u32) as usize;
-                block[at] = match r.below(4) {
-                    0 => r.word(),
-                    1 => block[at] ^ 1 << r.below(32),
-                    2 => block[r.below(BLOCK_WORDS as u32) as usize],
-                    _ => damages[r.below(damages.len() as u32) as usize],
-                };
-            }
-            tally.block(&checker, &block);
-            block = before;
+            tally.block(&checker, &damage(&block, &mut r));
         }
         left -= left.min(32);
     }
