@@ -120,7 +120,8 @@ pub fn shade_block(block: &[u8], tables: &[u8], fragment: &[u8]) -> Result<Shade
         2 => Err(Refusal::WrongTables),
         9 => Err(Refusal::WrongFragment),
         7 => Err(Refusal::NotWellFormed),
-        _ => Ok(Shaded::Off),
+        100 => Ok(Shaded::Off),
+        number => unreachable!("no answer of block shading is {number}"),
     }
 }
 
