@@ -28,8 +28,9 @@ use Rattle.shade_surface.specs.Surface.{lengthOf, quaternionOver, unitQuaternio
 use Rattle.shade_light.specs.Toward.{lightVector, halfOf, towardOf, facingOf, highlightsOf, factorBy, factorOf}
 use Rattle.shade_lookups.specs.Lookups.{present, valueIf, spotOf, fresnelOf, distanceBy, distanceOf, valuesBy, valuesOf}
 use Rattle.shade_sums.specs.Sums.{primaryOf, secondaryOf, alphaOf, diffuseOf, timesIf, specular0Of, reflectedOf, specular1Of, specularBy, specularOf, shadowFor, addedOf, summedOf, withLightBy, withLight, shadowedAlpha, finishOf}
-use Rattle.shading.specs.Shade.{lookupsOf, settingsOf, stepOf, sumsBy, sumsOf, lightingFrame, lightingShadow, shadeBy, shadeOf}
-use Rattle.block_shading.specs.Fragment.{floatAt, fourAt, quaternionOf, viewOf, texelsOf}
+use Rattle.shade_step.specs.Step.{stepOf}
+use Rattle.shading.specs.Shade.{lookupsOf, settingsOf, sumsBy, sumsOf, lightingFrame, lightingShadow, finishedOf, shadeBy, shadeOf}
+use Rattle.fragments.specs.Fragment.{floatAt, fourAt, quaternionOf, viewOf, texelsOf}
 use Rattle.block_shading.specs.BlockShading.{Shaded, eightOf, blockShading}
 use Rattle.refusals.specs.Lengths.{fileRefusal, tablesRefusal, registerRefusal, blockRefusal}
 use Rattle.tables.specs.Upload.{isData}
@@ -69,7 +70,7 @@ record Colours : Type 0 where
   white : shadeFrom bright entries fragment answer .answer ≡ 255 ∷ 255 ∷ 255 ∷ 255 ∷ 0 ∷ 0 ∷ 0 ∷ 255 ∷ []
 
 colours : Colours
-unfolding neg add sub mul div lt eq isNan ofInt ofBits toUnsigned toSigned rootOf magnitudeOf before maxOf minOf clampOf quantizedOf channelOf colourChannel colourField colourOf signed13 fixedOf shortExponent shortSign shortWord shortFloat plusOf minusOf timesOf overOf dotOf crossOf normalizedOf axisOf turnOf plusTwice rotateOf blankLight configOf supportedBy countOf numberOf lightRegister lightColour positionOf spotRead distanceRead spotlitOf lightOf slotLight lightsOf scaleOf lookupRead tableOf lookupsRead bumpOf shadowRead litLights inputHalf inputView lookupHalf lookupView halfInput viewInput needsHalf needsView lightingOn lightingOf decoded bumpUnit shadowUnit lengthOf quaternionOver unitQuaternion shadowOf surfaceNormal surfaceTangent tangentOf unitIf frameOf lightVector halfOf towardOf facingOf highlightsOf factorBy factorOf present valueIf spotOf fresnelOf distanceBy distanceOf valuesBy valuesOf primaryOf secondaryOf alphaOf diffuseOf timesIf specular0Of reflectedOf specular1Of specularBy specularOf shadowFor addedOf summedOf withLightBy withLight shadowedAlpha finishOf lookupsOf settingsOf stepOf sumsBy sumsOf lightingFrame lightingShadow shadeBy shadeOf floatAt fourAt quaternionOf viewOf texelsOf eightOf shadeFrom
+unfolding neg add sub mul div lt eq isNan ofInt ofBits toUnsigned toSigned rootOf magnitudeOf before maxOf minOf clampOf quantizedOf channelOf colourChannel colourField colourOf signed13 fixedOf shortExponent shortSign shortWord shortFloat plusOf minusOf timesOf overOf dotOf crossOf normalizedOf axisOf turnOf plusTwice rotateOf blankLight configOf supportedBy countOf numberOf lightRegister lightColour positionOf spotRead distanceRead spotlitOf lightOf slotLight lightsOf scaleOf lookupRead tableOf lookupsRead bumpOf shadowRead litLights inputHalf inputView lookupHalf lookupView halfInput viewInput needsHalf needsView lightingOn lightingOf decoded bumpUnit shadowUnit lengthOf quaternionOver unitQuaternion shadowOf surfaceNormal surfaceTangent tangentOf unitIf frameOf lightVector halfOf towardOf facingOf highlightsOf factorBy factorOf present valueIf spotOf fresnelOf distanceBy distanceOf valuesBy valuesOf primaryOf secondaryOf alphaOf diffuseOf timesIf specular0Of reflectedOf specular1Of specularBy specularOf shadowFor addedOf summedOf withLightBy withLight shadowedAlpha finishOf lookupsOf settingsOf stepOf sumsBy sumsOf lightingFrame lightingShadow finishedOf shadeBy shadeOf floatAt fourAt quaternionOf viewOf texelsOf eightOf shadeFrom
 colours = record { black = refl; white = refl }
 
 -- a shader that paints one colour, from the block of a lighting that is on
