@@ -1,0 +1,88 @@
+-- What the parts of the call leave is what is printed: a fresh unit and copy print as the machine does, a refusal prints its line, and the text
+-- that was put from the start is the output's front. Assumes nothing.
+use Prim.Native.Nat.{ℕ, _+_, _≤_, _<_}
+use native.Mathlib.Omega.{arith}
+use mathlib.Core.Path.{_≡_, refl, sym, ap, _∙_}
+use mathlib.Core.List.{List, _++_}
+use mathlib.Core.Bool.{Bool, true, false, cond}
+use borrow.Author.Tests.{le-leb}
+use lib.ListN.{length, take, drop, replicate}
+use Rattle.refusals.specs.Numbers.{numberOf, outcomeNumber}
+use Rattle.refusals.specs.declared.Refusal.{Refusal}
+use Rattle.refusals.specs.declared.Refusal.the-variants.{ShortFile, WrongTables, HighRegister, LastGeneration, WrongSaved, WrongBlock, NotWellFormed, BadCapture, WrongFragment}
+use Rattle.refusals.specs.declared.Outcome.{Outcome}
+use Rattle.refusals.specs.declared.Outcome.the-variants.{Refused}
+use Rattle.unit.specs.declared.Cache.{Cache}
+use Rattle.unit.specs.Fresh.{freshCache}
+use Rattle.lists.specs.States.{fresh}
+use Rattle.lists.specs.Plain.{zeros}
+use Rattle.writing.specs.Writing.{Out, out, puts}
+use Rattle.writing.specs.WritingLaws.{put-size, put-list, put-front}
+use Rattle.printing.specs.Text.{refusedLine}
+use Rattle.capture_contents.specs.Words.{wordsOf}
+use Rattle.capture_contents.specs.Contents.{countOf, triples, contents, sized, registersRight, shaped, wordsRefusal, refusal}
+use Rattle.capture_body.specs.Body.{lentState}
+use Rattle.capture_run.specs.Run.{copyPrints}
+use Rattle.capture.specs.declared.Answer.{Answer}
+use Rattle.capture.specs.Printed.{machinePrints, printedIf, printed}
+use Rattle.capture.specs.Answers.{largestOutput, numberBy, sizeOf, capturedBy, captures}
+use Rattle.capture.specs.PrintedLaws.{copy-prints-as-machine, printed-fits}
+
+pub fresh-prints : (w : List ℕ) (n : ℕ) (c : Cache) → length w ≤ 16384 → wordsRefusal w ≡ 0 → n ≡ countOf w → c ≡ freshCache → copyPrints w (triples w 0 n) (lentState (replicate 474 0) (replicate 12288 0) (replicate 328 0) (replicate 12288 0) (record { generation = 0; cache = c; age = 0 })) ≡ machinePrints w (contents w) zeros
+unfolding fresh
+fresh-prints w n c few e p q = rw (p, q) (copy-prints-as-machine w few e)
+
+-- 0, 3 or 8
+refusal-small : (w : List ℕ) → wordsRefusal w < 1000
+unfolding wordsRefusal
+refusal-small w = go (shaped w) (registersRight w (contents w))
+  where
+    go : (a b : Bool) → cond {A = ℕ} a (cond b 0 3) 8 < 1000
+    go true true = omega arith
+    go true false = omega arith
+    go false b = omega arith
+
+printed-refused : (k : Refusal) (w : List ℕ) → printedIf (numberOf k) w ≡ refusedLine (numberOf k)
+unfolding printedIf
+printed-refused ShortFile w = refl
+printed-refused WrongTables w = refl
+printed-refused HighRegister w = refl
+printed-refused LastGeneration w = refl
+printed-refused WrongSaved w = refl
+printed-refused WrongBlock w = refl
+printed-refused NotWellFormed w = refl
+printed-refused BadCapture w = refl
+printed-refused WrongFragment w = refl
+
+-- a refused outcome of the check
+module _ (w : List ℕ) (o : Outcome) (k : Refusal) (p : o ≡ Refused k) (e : outcomeNumber o ≡ wordsRefusal w) where
+  pub refused-number : numberOf k ≡ wordsRefusal w
+  refused-number = ap outcomeNumber (sym p) ∙ e
+
+  pub refused-small : (n : ℕ) → n ≡ numberOf k → n < 1000
+  refused-small n q = rw (q ∙ refused-number) (refusal-small w)
+
+  pub refused-prints : (n : ℕ) → n ≡ numberOf k → refusedLine n ≡ printedIf (wordsRefusal w) w
+  refused-prints n q = rw (q, ← refused-number) (sym (printed-refused k w))
+
+-- an input by its size
+module _ (input : List ℕ) where
+  pub printed-bad : sized (length input) ≡ false → (8 ≡ refusal input) × (refusedLine 8 ≡ printed input)
+  unfolding printed printedIf refusal
+  printed-bad e = rw e (refl, refl)
+
+  pub printed-good : sized (length input) ≡ true → (wordsRefusal (wordsOf input) ≡ refusal input) × (printedIf (wordsRefusal (wordsOf input)) (wordsOf input) ≡ printed input)
+  unfolding printed refusal
+  printed-good e = rw e (refl, refl)
+
+  -- an answer whose text was put from the output's start
+  pub captures-is : (o o′ : List ℕ) (a : Answer) → largestOutput ≤ length o → numberBy a ≡ refusal input → out o′ (sizeOf a) ≡ puts (out o 0) (printed input) → capturedBy a o′ ≡ captures input o
+  unfolding captures
+  captures-is o o′ a h n e =
+      let s : sizeOf a ≡ length (printed input) = put-size o o′ (printed input) (sizeOf a) e in
+      let l : o′ ≡ printed input ++ drop (length (printed input)) o = put-list o o′ (printed input) (sizeOf a) e (omega (arith, printed-fits input)) in
+      rw (le-leb largestOutput (length o) h, l, s, n) refl
+
+-- the words that were read stand at the front of a longer array
+pub front-words : (z l w : List ℕ) (r : ℕ) → out l r ≡ puts (out z 0) w → r ≤ length l → length l ≡ length z → take r l ≡ w
+front-words z l w r e h k = put-front z l w r e (omega (arith, put-size z l w r e))

@@ -1,0 +1,31 @@
+-- A capture makes far fewer calls than 2^64: a body makes no more than its words and one. So the theorem about lists of calls speaks of every
+-- capture. Assumes nothing.
+use Prim.Native.Nat.{ℕ, zero, suc, _+_, _-_, _≤_, _<_}
+use native.Mathlib.Omega.{arith}
+use mathlib.Core.Path.{_≡_, refl}
+use mathlib.Core.List.{List, [], _∷_, _++_}
+use mathlib.Core.Bool.{Bool, true, false, cond}
+use lib.ListN.{length, take, drop, length-take}
+use lib.Dec.{eqb}
+use Rattle.lists.specs.Calls.{Call}
+use Rattle.capture_contents.specs.Contents.{Body, wordsIn}
+use Rattle.capture_body.specs.Calls.{pairCalls, handOverCall, restoreCall, bodyCalls}
+
+pairs-few : (ws : List ℕ) → length (pairCalls ws) ≤ length ws
+unfolding pairCalls
+pairs-few [] = omega arith
+pairs-few (r ∷ []) = omega arith
+pairs-few (r ∷ v ∷ rest) = omega (arith, pairs-few rest)
+
+pub body-calls-few : (kind : ℕ) (ws : List ℕ) → length (bodyCalls kind ws) ≤ length ws + 1
+unfolding bodyCalls
+body-calls-few kind ws = go (eqb kind 1) (eqb kind 2) (eqb kind 3)
+  where
+    go : (a b c : Bool) → length (cond a (pairCalls ws) (cond b (handOverCall ∷ []) (cond c (restoreCall ws ∷ []) []))) ≤ length ws + 1
+    go true b c = omega (arith, pairs-few ws)
+    go false true c = omega arith
+    go false false true = omega arith
+    go false false false = omega arith
+
+pub words-in-few : (w : List ℕ) (b : Body) → length (wordsIn w b) ≤ b .size
+words-in-few w b = rw length-take (omega arith)

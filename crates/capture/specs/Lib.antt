@@ -1,0 +1,5 @@
+pub mod Printed
+pub mod Answers
+pub mod CallLaws
+pub mod PrintedLaws
+pub mod AnswerLaws

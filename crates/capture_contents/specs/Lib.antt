@@ -1,0 +1,4 @@
+pub mod Words
+pub mod Contents
+pub mod WordsLaws
+pub mod ContentsLaws

@@ -1,0 +1,2 @@
+pub mod ReadOnce
+pub mod Numbers

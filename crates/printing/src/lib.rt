@@ -1,0 +1,93 @@
+// The text that a capture prints, written into a buffer from a place on: a fragment's line, `off`, `refused N`. Each function answers the
+// place after what it wrote, and no line is longer than 32 bytes.
+ghost use mathlib.Core.Path.{_≡_};
+ghost use mathlib.Core.Bool.{cond};
+ghost use lib.Dec.{eqb};
+ghost use Prim.Native.Nat.{_+_, _≤_, _<_};
+ghost use lib.ListN.{length};
+ghost use Rattle.writing.specs.Writing.{out as outAt, puts};
+ghost use Rattle.printing.specs.Text.{digitByte, decimal, line, offLine, refusedLine, Bytes};
+
+fn digit(n: u32) -> u8
+    requires { ⌜ n < 10 ⌝ }
+    ensures { λ r. ⌜ r ≡ digitByte n ⌝ }
+{
+    b'0' + n as u8
+}
+
+// A number below 1000 in decimal.
+fn put_decimal(out: &mut [u8], at: usize, k: u32) -> usize
+    requires { ⌜ (at + 3 ≤ length (now out)) × (k < 1000) ⌝ }
+    ensures { λ r. ⌜ (outAt (now (out .exit)) r ≡ puts (outAt (now (out .entry)) at) (decimal k)) × (r ≤ at + 3) ⌝ }
+{
+    if k < 10 {
+        out[at] = digit(k);
+        return at + 1;
+    }
+    if k < 100 {
+        out[at] = digit(k / 10);
+        out[at + 1] = digit(k % 10);
+        return at + 2;
+    }
+    out[at] = digit(k / 100);
+    out[at + 1] = digit(k / 10 % 10);
+    out[at + 2] = digit(k % 10);
+    at + 3
+}
+
+// What follows number i of a line of eight.
+fn gap_after(i: usize) -> u8
+    ensures { λ r. ⌜ r ≡ cond (eqb i 7) 10 32 ⌝ }
+{
+    if i == 7 { b'\n' } else { b' ' }
+}
+
+// The eight k of a fragment.
+pub fn put_line(out: &mut [u8], at: usize, k: [u32; 8]) -> usize
+    requires { ⌜ at + 32 ≤ length (now out) ⌝ }
+    requires { ⌜ Bytes k ⌝ }
+    ensures { λ r. ⌜ (outAt (now (out .exit)) r ≡ puts (outAt (now (out .entry)) at) (line k)) × (r ≤ at + 32) ⌝ }
+{
+    let mut next = at;
+    let mut i = 0;
+    while i < 8 {
+        let end = put_decimal(out, next, k[i]);
+        out[end] = gap_after(i);
+        next = end + 1;
+        i += 1;
+    }
+    next
+}
+
+pub fn put_off(out: &mut [u8], at: usize) -> usize
+    requires { ⌜ at + 4 ≤ length (now out) ⌝ }
+    ensures { λ r. ⌜ (outAt (now (out .exit)) r ≡ puts (outAt (now (out .entry)) at) offLine) × (r ≤ at + 4) ⌝ }
+{
+    out[at] = b'o';
+    out[at + 1] = b'f';
+    out[at + 2] = b'f';
+    out[at + 3] = b'\n';
+    at + 4
+}
+
+fn put_text(out: &mut [u8], at: usize, text: &[u8]) -> usize
+    requires { ⌜ at + length (now text) ≤ length (now out) ⌝ }
+    ensures { λ r. ⌜ (outAt (now (out .exit)) r ≡ puts (outAt (now (out .entry)) at) (now (text .entry))) × (r ≡ at + length (now (text .entry))) ⌝ }
+{
+    let mut i = 0;
+    while i < text.len() {
+        out[at + i] = text[i];
+        i += 1;
+    }
+    at + i
+}
+
+pub fn put_refused(out: &mut [u8], at: usize, number: u32) -> usize
+    requires { ⌜ (at + 12 ≤ length (now out)) × (number < 1000) ⌝ }
+    ensures { λ r. ⌜ (outAt (now (out .exit)) r ≡ puts (outAt (now (out .entry)) at) (refusedLine number)) × (r ≤ at + 12) ⌝ }
+{
+    let next = put_text(out, at, b"refused ");
+    let end = put_decimal(out, next, number);
+    out[end] = b'\n';
+    end + 1
+}
