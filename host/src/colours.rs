@@ -1,8 +1,8 @@
 //! Block shading of the proved code, beside the Rust module's `Lighting::shade`.
 //!
 //! The module's `max` gives −0 of −0 and +0 where IEEE 754 and the proved code give +0 (docs/DIFFERENCES.md). No colour shows
-//! it: the maxima are a facing and a table's input, and no later step divides by them or asks for their sign. So nothing
-//! is left out of the comparison.
+//! it: of a facing and of a table's input no later step asks the sign or the reciprocal, and what the rebuilt z comes from is
+//! never −0. So nothing is left out of the comparison.
 
 unsafe extern "C" {
     fn lighting_shade_block(
