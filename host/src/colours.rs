@@ -15,6 +15,16 @@ unsafe extern "C" {
         answer: *mut u8,
         answer_bytes: usize,
     ) -> u32;
+    fn shading_last(
+        block: *const u32,
+        block_words: usize,
+        tables: *const u32,
+        table_words: usize,
+        fragments: *const u32,
+        fragment_words: usize,
+        answer: *mut u32,
+        answer_words: usize,
+    ) -> u32;
 }
 
 /// The call itself: document 01's number, 0 with the eight k in `answer`, or 100 where the block is off. But for 0 the answer stays as it was.
@@ -27,6 +37,22 @@ pub fn call(block: &[u8], tables: &[u8], fragment: &[u8], answer: &mut [u8]) -> 
             tables.len(),
             fragment.as_ptr(),
             fragment.len(),
+            answer.as_mut_ptr(),
+            answer.len(),
+        )
+    }
+}
+
+/// Reads the block once and shades fragment after fragment, 23 words each: the same numbers, and the eight k of the last in `answer`.
+pub fn shade_many(block: &[u32], tables: &[u32], fragments: &[u32], answer: &mut [u32]) -> u32 {
+    unsafe {
+        shading_last(
+            block.as_ptr(),
+            block.len(),
+            tables.as_ptr(),
+            tables.len(),
+            fragments.as_ptr(),
+            fragments.len(),
             answer.as_mut_ptr(),
             answer.len(),
         )

@@ -5,7 +5,7 @@
 #[cfg(oracle)]
 fn main() {
     use lighting_host::blocks::theirs;
-    use lighting_host::colours::{bytes, call, eight, ordinary_fragment, scene, table_words, words, Fragment};
+    use lighting_host::colours::{bytes, call, eight, ordinary_fragment, scene, shade_many, table_words, words, Fragment};
     use lighting_host::oracle::Lighting;
     use lighting_host::patterns::Random;
     use std::hint::black_box;
@@ -13,11 +13,6 @@ fn main() {
 
     const ROUNDS: usize = 200;
     const FRAGMENTS: usize = 1000;
-
-    /// The words of a block and of the tables, those of many fragments, and the eight k of the last.
-    type Many = fn(&[u32], &[u32], &[u32], &mut [u32]) -> u32;
-    /// (a): no library exports it yet; a static library for tests will, and its call goes here.
-    const MANY: Option<Many> = None;
 
     println!("{:<22} {:>8} {:>8} {:>6} {:>8} {:>6}", "ns for each fragment", "Rust", "(a)", "ratio", "(b)", "ratio");
     let mut r = Random(1);
@@ -32,9 +27,12 @@ fn main() {
         let fragments: Vec<Fragment> = fragment_words.iter().map(|f| Fragment::of(f)).collect();
         let fragment_bytes: Vec<Vec<u8>> = fragment_words.iter().map(|f| bytes(f)).collect();
         let mut answer = [0; 32];
-        for (fragment, bytes) in fragments.iter().zip(&fragment_bytes) {
+        for (count, (fragment, bytes)) in fragments.iter().zip(&fragment_bytes).enumerate() {
             assert_eq!(call(&block_bytes, &entry_bytes, bytes, &mut answer), 0);
             assert_eq!(words(&answer), eight(&lighting, &tables, fragment), "{name}");
+            let mut last = [256; 8];
+            assert_eq!(shade_many(&block, &entries, fragment_words[..=count].as_flattened(), &mut last), 0);
+            assert_eq!(words(&answer), last, "{name}");
         }
 
         let mut best = [f64::MAX; 3];
@@ -49,13 +47,11 @@ fn main() {
                     black_box(fragment.shade(&lighting, black_box(&tables)));
                 }
             });
-            if let Some(many) = MANY {
-                time(1, &mut || {
-                    let mut colours = [0; 8];
-                    assert_eq!(many(&block, &entries, fragment_words.as_flattened(), &mut colours), 0);
-                    black_box(&colours);
-                });
-            }
+            time(1, &mut || {
+                let mut colours = [0; 8];
+                assert_eq!(shade_many(&block, &entries, fragment_words.as_flattened(), &mut colours), 0);
+                black_box(&colours);
+            });
             time(2, &mut || {
                 for fragment in &fragment_bytes {
                     call(&block_bytes, &entry_bytes, fragment, &mut answer);
@@ -64,11 +60,7 @@ fn main() {
             });
         }
         let [theirs, many, one] = best;
-        let (many, ratio) = match MANY {
-            Some(_) => (format!("{many:.1}"), format!("{:.2}", many / theirs)),
-            None => ("-".into(), "-".into()),
-        };
-        println!("{name:<22} {theirs:>8.1} {many:>8} {ratio:>6} {one:>8.1} {:>6.2}", one / theirs);
+        println!("{name:<22} {theirs:>8.1} {many:>8.1} {:>6.2} {one:>8.1} {:>6.2}", many / theirs, one / theirs);
     }
 }
 
