@@ -5,7 +5,7 @@
 use std::path::PathBuf;
 use std::{env, fs};
 
-const LIBRARIES: [&str; 6] = ["lighting_abi", "comparison_abi", "tables_abi", "block_abi", "unit_abi", "shading_abi"];
+const LIBRARIES: [&str; 7] = ["lighting_abi", "comparison_abi", "tables_abi", "block_abi", "unit_abi", "shading_abi", "capture_abi"];
 
 const DEFAULT: &str = "../../shared/docs/src/src--crates--zakuro-gpu--src--lighting.rs.txt";
 

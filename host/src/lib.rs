@@ -9,6 +9,7 @@
 use std::fmt;
 
 pub mod blocks;
+pub mod captures;
 pub mod colours;
 pub mod floats;
 pub mod forms;

@@ -99,3 +99,14 @@ pub fn printed_size(answer: Answer) -> usize
         Answer::ShortOutput => 0,
     }
 }
+
+// An answer's number: 0, the refusal's, or 101 for a short output.
+pub fn answer_number(answer: Answer) -> u32
+    ensures { λ r. ⌜ r ≡ numberBy answer ⌝ }
+{
+    match answer {
+        Answer::Printed(_) => 0,
+        Answer::Refused(refusal, _) => refusals::number(refusal),
+        Answer::ShortOutput => 101,
+    }
+}

@@ -3,10 +3,10 @@
 use Prim.Native.Nat.{_≤_, _+_, _-_, _*_, _/_}
 use native.Mathlib.Omega.{arith}
 use mathlib.Core.Path.{_≡_, refl, _∙_}
-use lib.ListN.{length, drop}
+use lib.ListN.{length, drop, length-take, length-drop}
 use Rattle.writing.specs.Writing.{puts}
 use Rattle.writing.specs.Writing as Writing
-use Rattle.writing.specs.PieceLaws.{part-is, part-length}
+use Rattle.writing.specs.PieceLaws.{part-is}
 use Rattle.capture_lines.specs.Lines.{litShades, fragmentLines}
 use Rattle.capture_lines.specs.LinesLaws.{lines-all, lines-none, lines-turn}
 use borrow.Author.Needs.{needs}
@@ -44,7 +44,7 @@ print-lit-requires : tie.Need-print-lit-requires Inv-loop μ-loop
 print-lit-requires c κs =
     let s = c .before .before .before .before .before .before .before in
     let l = c .before .before .before .loop in
-    (s .pre .0, (s .pre .1 .0, part-length _ (23 * l .i) 23 (omega arith), omega arith))
+    (s .pre .0, (s .pre .1 .0, simp (length-take, length-drop) (omega arith), omega arith))
 
 add-i : tie.Need-add-i Inv-loop μ-loop
 add-i c = search needs
