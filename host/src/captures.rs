@@ -110,6 +110,11 @@ pub fn fragments(count: usize, r: &mut Random) -> Vec<u32> {
     words
 }
 
+/// So many fragments of ordinary numbers, for timing.
+pub fn ordinary_fragments(count: usize, r: &mut Random) -> Vec<u32> {
+    (0..FRAGMENT_WORDS * count).map(|_| r.ordinary()).collect()
+}
+
 /// Bodies of every kind that make up a capture.
 pub fn bodies(r: &mut Random) -> Vec<Body> {
     let count = [0, 1, 2, 3, 3, 4, 5, 6, 9, 16][r.below(10) as usize];
@@ -189,14 +194,17 @@ mod compared {
     use super::*;
     use crate::oracle::{LastLighting, Lighting, Tables};
     use crate::tables::{generated, INDEX};
-    use std::fmt::Write;
 
-    /// What stands in document 01's 'Capture' refusals, in its order; past them the bodies.
-    fn checked(input: &[u8]) -> Result<Vec<Body>, u32> {
+    /// The words of an input that can be a capture by its size.
+    fn sized(input: &[u8]) -> Result<Vec<u32>, u32> {
         if input.is_empty() || input.len() > 4 * WORDS || !input.len().is_multiple_of(4) {
             return Err(8);
         }
-        let words: Vec<u32> = input.as_chunks().0.iter().map(|w| u32::from_le_bytes(*w)).collect();
+        Ok(input.as_chunks().0.iter().map(|w| u32::from_le_bytes(*w)).collect())
+    }
+
+    /// What stands in document 01's 'Capture' refusals, in its order; past them the bodies, each with its kind.
+    fn checked(words: &[u32]) -> Result<Vec<(u32, &[u32])>, u32> {
         let count = words[0] as usize;
         if count > 16 || words.len() < 1 + 3 * count {
             return Err(8);
@@ -214,13 +222,13 @@ mod compared {
             if !right || offset as usize != end || words.len() - end < length as usize {
                 return Err(8);
             }
-            bodies.push(Body { kind, words: words[end..end + length as usize].to_vec() });
+            bodies.push((kind, &words[end..end + length as usize]));
             end += length as usize;
         }
         if end != words.len() {
             return Err(8);
         }
-        let high = |body: &Body| body.kind == 1 && body.words.chunks(2).any(|pair| pair[0] >= 474);
+        let high = |(kind, body): &(u32, &[u32])| *kind == 1 && body.chunks(2).any(|pair| pair[0] >= 474);
         if bodies.iter().any(high) {
             return Err(3);
         }
@@ -235,16 +243,33 @@ mod compared {
         std::array::from_fn(|i| (if i < 4 { primary[i] } else { secondary[i - 4] } * 255.0).round() as u32)
     }
 
+    /// A number below 1000 in decimal.
+    fn push_decimal(out: &mut Vec<u8>, k: u32) {
+        let digit = |n: u32| b'0' + n as u8;
+        match k {
+            0..10 => out.push(digit(k)),
+            10..100 => out.extend([digit(k / 10), digit(k % 10)]),
+            _ => out.extend([digit(k / 100), digit(k / 10 % 10), digit(k % 10)]),
+        }
+    }
+
+    fn push_line(out: &mut Vec<u8>, k: [u32; 8]) {
+        for (i, k) in k.into_iter().enumerate() {
+            push_decimal(out, k);
+            out.push(if i == 7 { b'\n' } else { b' ' });
+        }
+    }
+
     /// What the bodies print, run by the module.
-    fn run(bodies: &[Body], tally: &mut Tally, out: &mut String) {
+    fn run(bodies: &[(u32, &[u32])], tally: &mut Tally, out: &mut Vec<u8>) {
         let mut file = vec![0; 474];
         let mut tables = Tables::default();
         let mut last = LastLighting::default();
-        for body in bodies {
-            tally.bodies[body.kind as usize] += 1;
-            match body.kind {
+        for (kind, body) in bodies {
+            tally.bodies[*kind as usize] += 1;
+            match kind {
                 1 => {
-                    for pair in body.words.chunks(2) {
+                    for pair in body.chunks(2) {
                         if (0x1C8..=0x1CF).contains(&pair[0]) {
                             tables.write(&mut file, pair[1]);
                         } else {
@@ -254,23 +279,19 @@ mod compared {
                 }
                 2 => {
                     let lighting = last.read(&file);
-                    tally.empty += body.words.is_empty() as u64;
-                    for fragment in body.words.chunks(FRAGMENT_WORDS) {
-                        match &lighting {
-                            Some(lighting) => {
-                                let [a, b, c, d, e, f, g, h] = eight(lighting, &tables, fragment);
-                                writeln!(out, "{a} {b} {c} {d} {e} {f} {g} {h}").unwrap();
-                                tally.lit += 1;
-                            }
-                            None => {
-                                *out += "off\n";
-                                tally.off += 1;
-                            }
+                    tally.empty += body.is_empty() as u64;
+                    for fragment in body.chunks(FRAGMENT_WORDS) {
+                        if let Some(lighting) = &lighting {
+                            push_line(out, eight(lighting, &tables, fragment));
+                            tally.lit += 1;
+                        } else {
+                            out.extend(b"off\n");
+                            tally.off += 1;
                         }
                     }
                 }
                 _ => {
-                    let pairs: Vec<[f32; 2]> = body.words.as_chunks().0.iter().map(|entry| entry.map(f32::from_bits)).collect();
+                    let pairs: Vec<[f32; 2]> = body.as_chunks().0.iter().map(|entry| entry.map(f32::from_bits)).collect();
                     assert!(tables.restore(&pairs));
                 }
             }
@@ -278,14 +299,16 @@ mod compared {
     }
 
     /// What a capture prints, by the module, and its number.
-    pub fn theirs(input: &[u8], tally: &mut Tally, out: &mut String) -> u32 {
-        match checked(input) {
+    pub fn theirs(input: &[u8], tally: &mut Tally, out: &mut Vec<u8>) -> u32 {
+        let words = sized(input);
+        let bodies = words.as_deref().map_err(|number| *number).and_then(checked);
+        match bodies {
             Ok(bodies) => {
                 run(&bodies, tally, out);
                 0
             }
             Err(number) => {
-                writeln!(out, "refused {number}").unwrap();
+                out.extend(format!("refused {number}\n").bytes());
                 number
             }
         }
@@ -312,13 +335,13 @@ mod compared {
 
     impl Tally {
         fn capture(&mut self, input: &[u8], output: &mut [u8]) {
-            let mut due = String::new();
+            let mut due = vec![];
             let number = theirs(input, self, &mut due);
             output.fill(b'?');
             let (got, text) = print(input, output);
             self.captures += 1;
             self.numbers[number as usize] += 1;
-            let (same, size) = (got == number && text == due.as_bytes(), text.len());
+            let (same, size) = (got == number && text == due, text.len());
             if !same || output[size..].iter().any(|b| *b != b'?') {
                 self.differ += 1;
                 let words: Vec<String> = input.iter().map(|b| format!("{b:02X}")).collect();
@@ -393,7 +416,7 @@ mod compared {
             writes.extend([0x100, r.word()]);
         }
         bodies.push(Body { kind: 1, words: writes });
-        bodies.push(Body { kind: 2, words: fragments(count, r) });
+        bodies.push(Body { kind: 2, words: ordinary_fragments(count, r) });
         bytes(&capture(&bodies))
     }
 
@@ -618,12 +641,13 @@ mod compared {
 
     /// What it prints, by the module.
     pub fn answers_text(seed: u64) -> String {
-        let (mut text, mut tally) = (String::new(), Tally::default());
+        let (mut text, mut tally) = (vec![], Tally::default());
         let list = list(seed);
         for (at, listed) in list.iter().enumerate() {
-            text += &format!("capture {}\n", at + 1);
+            text.extend(format!("capture {}\n", at + 1).bytes());
             theirs(&listed.input(), &mut tally, &mut text);
         }
-        text + &format!("{} captures\n", list.len())
+        text.extend(format!("{} captures\n", list.len()).bytes());
+        String::from_utf8(text).unwrap()
     }
 }
