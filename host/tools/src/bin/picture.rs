@@ -1,0 +1,143 @@
+//! Pictures of scenes, coloured by lightshow.
+
+use lighting_tools::drawing::{self, panels, Canvas, Colours};
+use lighting_tools::pack::pack;
+use lighting_tools::png;
+use lighting_tools::shapes::{fragments, Fragment, Shape};
+use std::io::{self, IsTerminal};
+use std::path::{Path, PathBuf};
+use std::process::ExitCode;
+use std::{env, fs};
+
+const HELP: &str = "\
+picture SCENE OUT.png [--shape sphere|plane|both] [--size N] [--hand-over K]
+                      [--lightshow PATH] [--no-rust]
+
+Draws a scene's text (docs/TEXT.md) on a sphere, on a plane, or on both: the primary colour,
+the secondary and their sum, each 256 x 256 or N x N. lightshow colours every pixel.
+The eye is at 0 0 0 and looks along -z; the sphere has radius 1 and stands at 0 0 -4.
+Texture units: 0 studs for bump=normal, 1 a window for shadow, 2 circles for bump=tangent, 3 white.
+The text's own fragments are not drawn. --hand-over K draws by its K-th hand-over, else all lines count.
+Where the build had the Rust module, its picture and the difference stand below; exit status 1
+if a pixel differs. --no-rust leaves them out.
+";
+
+const USAGE: &str = "picture is run as: picture SCENE OUT.png [OPTIONS]; picture --help tells more";
+
+struct Options {
+    scene: String,
+    out: String,
+    shape: Shape,
+    size: usize,
+    hand_over: Option<usize>,
+    lightshow: Option<PathBuf>,
+    rust: bool,
+}
+
+fn options(arguments: impl Iterator<Item = String>) -> Result<Options, String> {
+    let mut names = vec![];
+    let mut options =
+        Options { scene: String::new(), out: String::new(), shape: Shape::Sphere, size: 256, hand_over: None, lightshow: None, rust: true };
+    let mut arguments = arguments;
+    while let Some(argument) = arguments.next() {
+        let mut value = || arguments.next().ok_or(format!("{argument} needs something after it"));
+        match argument.as_str() {
+            "--shape" => {
+                let name = value()?;
+                options.shape = Shape::of(&name).ok_or(format!("no shape is called '{name}': there are sphere, plane and both"))?;
+            }
+            "--size" => {
+                let text = value()?;
+                options.size = text.parse().ok().filter(|n| (1..=2048).contains(n)).ok_or(format!("'{text}' is not a size from 1 to 2048"))?;
+            }
+            "--hand-over" => {
+                let text = value()?;
+                options.hand_over = Some(text.parse().ok().filter(|n| *n > 0).ok_or(format!("'{text}' is not the number of a hand-over"))?);
+            }
+            "--lightshow" => options.lightshow = Some(PathBuf::from(value()?)),
+            "--no-rust" => options.rust = false,
+            other if other.starts_with("--") => return Err(format!("there is no option {other}; {USAGE}")),
+            _ => names.push(argument),
+        }
+    }
+    [options.scene, options.out] = names.try_into().map_err(|_| USAGE.to_string())?;
+    Ok(options)
+}
+
+fn main() -> ExitCode {
+    let mut arguments = env::args().skip(1).peekable();
+    if arguments.peek().is_some_and(|first| ["--help", "-h", "help"].contains(&first.as_str())) {
+        print!("{HELP}");
+        return ExitCode::SUCCESS;
+    }
+    match options(arguments).and_then(|options| picture(&options)) {
+        Ok(0) => ExitCode::SUCCESS,
+        Ok(_) => ExitCode::FAILURE,
+        Err(what) => {
+            eprintln!("{what}");
+            ExitCode::FAILURE
+        }
+    }
+}
+
+/// Draws the picture, and gives the number of pixels that differ from the Rust's.
+fn picture(options: &Options) -> Result<usize, String> {
+    let (scene, out) = (&options.scene, &options.out);
+    if !out.ends_with(".png") {
+        return Err(format!("{out} does not end in .png; {USAGE}"));
+    }
+    let text = fs::read_to_string(scene).map_err(|e| format!("{scene}: {e}"))?;
+    let folder = Path::new(scene).parent().unwrap_or(Path::new(""));
+    let bodies = pack(&text, folder).map_err(|wrong| format!("{scene}:{}: {}", wrong.line, wrong.what))?;
+    let setup = drawing::setup(&bodies, options.hand_over).map_err(|what| format!("{scene}: {what}"))?;
+    let lightshow = drawing::lightshow(options.lightshow.as_deref())?;
+
+    let places = fragments(options.shape, options.size);
+    let seen: Vec<bool> = places.iter().map(Option::is_some).collect();
+    let fragments: Vec<Fragment> = places.into_iter().flatten().collect();
+    let shown = io::stderr().is_terminal();
+    let progress = |done: usize| {
+        if shown {
+            eprint!("\r{scene}: {} of {} pixels", done, fragments.len());
+        }
+    };
+    let colours = drawing::draw(&lightshow, &setup, &fragments, progress);
+    if shown {
+        // the line is wiped, so that what follows stands alone
+        eprint!("\r\x1b[K");
+    }
+    let colours = colours.map_err(|what| format!("{scene}: {what}"))?;
+
+    let rust = if options.rust { theirs(&setup, &fragments) } else { None };
+    let mut canvas = Canvas::new(options.size, if rust.is_some() { 3 } else { 1 });
+    canvas.paint(0, &seen, colours.iter().map(panels));
+    if let Some(rust) = &rust {
+        canvas.paint(1, &seen, rust.iter().map(panels));
+        canvas.paint(2, &seen, colours.iter().zip(rust).map(|(ours, theirs)| drawing::differences(ours, theirs)));
+    }
+    fs::write(out, png::file(canvas.width, canvas.height, &canvas.pixels)).map_err(|e| format!("{out}: {e}"))?;
+
+    println!("{out}: {} x {}, {} pixels by lightshow", canvas.width, canvas.height, fragments.len());
+    if colours.iter().any(Option::is_none) {
+        println!("the lighting is off: enable is not 1, or disable is 1");
+    }
+    let Some(rust) = rust else {
+        if options.rust {
+            println!("nothing was compared: the tools were built without the Rust module (LIGHTING_RS names its file)");
+        }
+        return Ok(0);
+    };
+    let differ = colours.iter().zip(&rust).filter(|(ours, theirs)| ours != theirs).count();
+    println!("{differ} pixels differ of {} from the Rust module's", fragments.len());
+    Ok(differ)
+}
+
+#[cfg(oracle)]
+fn theirs(setup: &[lighting_tools::bodies::Body], fragments: &[Fragment]) -> Option<Vec<Colours>> {
+    Some(lighting_tools::rust::draw(setup, fragments))
+}
+
+#[cfg(not(oracle))]
+fn theirs(_: &[lighting_tools::bodies::Body], _: &[Fragment]) -> Option<Vec<Colours>> {
+    None
+}

@@ -1,0 +1,344 @@
+//! The registers, tables and fields by name, as decoding reads them.
+
+use std::sync::OnceLock;
+
+/// Registers are numbered below this.
+pub const REGISTERS: u32 = 474;
+/// Tables are numbered below this.
+pub const TABLES: usize = 24;
+/// The first of the eight registers that take table data.
+pub const TABLE_DATA: u32 = 0x1C8;
+pub const TABLE_INDEX: u32 = 0x1C5;
+pub const LIGHT_COUNT: u32 = 0x1C2;
+pub const SLOTS: u32 = 0x1D9;
+
+const SINGLE: [(&str, u32); 19] = [
+    ("enable", 0x08F),
+    ("global_ambient", 0x1C0),
+    ("light_count", LIGHT_COUNT),
+    ("config0", 0x1C3),
+    ("config1", 0x1C4),
+    ("table_index", TABLE_INDEX),
+    ("disable", 0x1C6),
+    ("table_data", TABLE_DATA),
+    ("table_data1", TABLE_DATA + 1),
+    ("table_data2", TABLE_DATA + 2),
+    ("table_data3", TABLE_DATA + 3),
+    ("table_data4", TABLE_DATA + 4),
+    ("table_data5", TABLE_DATA + 5),
+    ("table_data6", TABLE_DATA + 6),
+    ("table_data7", TABLE_DATA + 7),
+    ("table_absolute", 0x1D0),
+    ("table_input", 0x1D1),
+    ("table_scale", 0x1D2),
+    ("slots", SLOTS),
+];
+
+/// What stands where in a light's sixteen registers.
+const OF_A_LIGHT: [(&str, u32); 11] = [
+    ("specular0", 0x0),
+    ("specular1", 0x1),
+    ("diffuse", 0x2),
+    ("ambient", 0x3),
+    ("position_xy", 0x4),
+    ("position_z", 0x5),
+    ("spot_xy", 0x6),
+    ("spot_z", 0x7),
+    ("flags", 0x9),
+    ("distance_bias", 0xA),
+    ("distance_scale", 0xB),
+];
+
+fn light(number: u32) -> u32 {
+    0x140 + 0x10 * number
+}
+
+/// Every register that has a name, with it.
+pub fn registers() -> &'static [(String, u32)] {
+    static NAMED: OnceLock<Vec<(String, u32)>> = OnceLock::new();
+    NAMED.get_or_init(|| {
+        let lights = (0..8).flat_map(|n| OF_A_LIGHT.iter().map(move |(part, at)| (format!("light{n}.{part}"), light(n) + at)));
+        SINGLE.iter().map(|(name, at)| (name.to_string(), *at)).chain(lights).collect()
+    })
+}
+
+pub fn register(name: &str) -> Option<u32> {
+    registers().iter().find(|(known, _)| known == name).map(|(_, at)| *at)
+}
+
+pub fn register_name(register: u32) -> Option<&'static str> {
+    registers().iter().find(|(_, at)| *at == register).map(|(name, _)| name.as_str())
+}
+
+/// Names that stand for two registers, written one after the other.
+#[derive(Clone, Copy, Debug, PartialEq, Eq)]
+pub enum Pair {
+    /// A light's position: the register of its x and y.
+    Position(u32),
+    /// A light's spot direction: the register of its x and y.
+    Spot(u32),
+    /// A light's distance bias and scale: the register of the bias.
+    Distance(u32),
+    /// The lights in their slots: the count and the slots.
+    Lights,
+}
+
+pub fn pairs() -> &'static [(String, Pair)] {
+    static NAMED: OnceLock<Vec<(String, Pair)>> = OnceLock::new();
+    let of_a_light = |n| {
+        [
+            (format!("light{n}.position"), Pair::Position(light(n) + 0x4)),
+            (format!("light{n}.spot"), Pair::Spot(light(n) + 0x6)),
+            (format!("light{n}.distance"), Pair::Distance(light(n) + 0xA)),
+        ]
+    };
+    NAMED.get_or_init(|| (0..8).flat_map(of_a_light).chain([("lights".to_string(), Pair::Lights)]).collect())
+}
+
+pub fn pair(name: &str) -> Option<Pair> {
+    pairs().iter().find(|(known, _)| known == name).map(|(_, pair)| *pair)
+}
+
+/// A table's name; tables 2 and 7 are never read and have none.
+pub const TABLE_NAMES: [&str; TABLES] = [
+    "distribution0",
+    "distribution1",
+    "",
+    "fresnel",
+    "reflect_blue",
+    "reflect_green",
+    "reflect_red",
+    "",
+    "spot0",
+    "spot1",
+    "spot2",
+    "spot3",
+    "spot4",
+    "spot5",
+    "spot6",
+    "spot7",
+    "distance0",
+    "distance1",
+    "distance2",
+    "distance3",
+    "distance4",
+    "distance5",
+    "distance6",
+    "distance7",
+];
+
+/// A table by its name or its number.
+pub fn table(text: &str) -> Option<usize> {
+    let numbered = || text.parse().ok().filter(|at| *at < TABLES);
+    TABLE_NAMES.iter().position(|name| !name.is_empty() && *name == text).or_else(numbered)
+}
+
+pub fn table_text(table: usize) -> String {
+    match TABLE_NAMES.get(table) {
+        Some(name) if !name.is_empty() => name.to_string(),
+        _ => table.to_string(),
+    }
+}
+
+/// A part of a register's word.
+#[derive(Debug)]
+pub struct Field {
+    pub name: &'static str,
+    pub shift: u32,
+    pub width: u32,
+    /// The names of its numbers; `None` for a field whose name alone sets all of its bits.
+    pub numbers: Option<&'static [(&'static str, u32)]>,
+}
+
+impl Field {
+    pub fn mask(&self) -> u32 {
+        ((1 << self.width) - 1) << self.shift
+    }
+}
+
+const fn flag(name: &'static str, shift: u32) -> Field {
+    Field { name, shift, width: 1, numbers: None }
+}
+
+const fn flags(name: &'static str, shift: u32, width: u32) -> Field {
+    Field { name, shift, width, numbers: None }
+}
+
+const fn number(name: &'static str, shift: u32, width: u32, numbers: &'static [(&'static str, u32)]) -> Field {
+    Field { name, shift, width, numbers: Some(numbers) }
+}
+
+const LIGHT_FLAGS: [Field; 4] = [flag("directional", 0), flag("two_sided", 1), flag("geometric0", 2), flag("geometric1", 3)];
+
+const CONFIG0: [Field; 13] = [
+    number("configuration", 4, 4, &[]),
+    flag("fresnel_primary", 2),
+    flag("fresnel_secondary", 3),
+    flag("clamp_highlights", 27),
+    number("bump", 28, 2, &[("normal", 1), ("tangent", 2)]),
+    number("bump_unit", 22, 2, &[]),
+    flag("keep_z", 30),
+    flag("shadow", 0),
+    number("shadow_unit", 24, 2, &[]),
+    flag("shadow_primary", 16),
+    flag("shadow_secondary", 17),
+    flag("shadow_invert", 18),
+    flag("shadow_alpha", 19),
+];
+
+// a name for several bits stands before the names of each
+const CONFIG1: [Field; 34] = [
+    flags("no_shadow", 0, 8),
+    flag("no_shadow0", 0),
+    flag("no_shadow1", 1),
+    flag("no_shadow2", 2),
+    flag("no_shadow3", 3),
+    flag("no_shadow4", 4),
+    flag("no_shadow5", 5),
+    flag("no_shadow6", 6),
+    flag("no_shadow7", 7),
+    flags("no_spot", 8, 8),
+    flag("no_spot0", 8),
+    flag("no_spot1", 9),
+    flag("no_spot2", 10),
+    flag("no_spot3", 11),
+    flag("no_spot4", 12),
+    flag("no_spot5", 13),
+    flag("no_spot6", 14),
+    flag("no_spot7", 15),
+    flag("no_distribution0", 16),
+    flag("no_distribution1", 17),
+    flag("no_fresnel", 19),
+    flags("no_reflect", 20, 3),
+    flag("no_reflect_red", 20),
+    flag("no_reflect_green", 21),
+    flag("no_reflect_blue", 22),
+    flags("no_distance", 24, 8),
+    flag("no_distance0", 24),
+    flag("no_distance1", 25),
+    flag("no_distance2", 26),
+    flag("no_distance3", 27),
+    flag("no_distance4", 28),
+    flag("no_distance5", 29),
+    flag("no_distance6", 30),
+    flag("no_distance7", 31),
+];
+
+const TABLE_NUMBERS: [(&str, u32); 22] = [
+    ("distribution0", 0),
+    ("distribution1", 1),
+    ("fresnel", 3),
+    ("reflect_blue", 4),
+    ("reflect_green", 5),
+    ("reflect_red", 6),
+    ("spot0", 8),
+    ("spot1", 9),
+    ("spot2", 10),
+    ("spot3", 11),
+    ("spot4", 12),
+    ("spot5", 13),
+    ("spot6", 14),
+    ("spot7", 15),
+    ("distance0", 16),
+    ("distance1", 17),
+    ("distance2", 18),
+    ("distance3", 19),
+    ("distance4", 20),
+    ("distance5", 21),
+    ("distance6", 22),
+    ("distance7", 23),
+];
+
+const INDEX: [Field; 2] = [number("table", 8, 5, &TABLE_NUMBERS), number("entry", 0, 8, &[])];
+
+const SIGNED: [Field; 7] = [
+    flag("signed_distribution0", 1),
+    flag("signed_distribution1", 5),
+    flag("signed_spot", 9),
+    flag("signed_fresnel", 13),
+    flag("signed_reflect_blue", 17),
+    flag("signed_reflect_green", 21),
+    flag("signed_reflect_red", 25),
+];
+
+/// The dot products that a table can be read at.
+const INPUTS: [(&str, u32); 6] =
+    [("normal_half", 0), ("view_half", 1), ("normal_view", 2), ("light_normal", 3), ("light_spot", 4), ("tangent_half", 5)];
+
+const SCALES: [(&str, u32); 6] = [("x1", 0), ("x2", 1), ("x4", 2), ("x8", 3), ("x0.25", 6), ("x0.5", 7)];
+
+const fn by_table(numbers: &'static [(&'static str, u32)]) -> [Field; 7] {
+    [
+        number("distribution0", 0, 3, numbers),
+        number("distribution1", 4, 3, numbers),
+        number("spot", 8, 3, numbers),
+        number("fresnel", 12, 3, numbers),
+        number("reflect_blue", 16, 3, numbers),
+        number("reflect_green", 20, 3, numbers),
+        number("reflect_red", 24, 3, numbers),
+    ]
+}
+
+static INPUT: [Field; 7] = by_table(&INPUTS);
+static SCALE: [Field; 7] = by_table(&SCALES);
+
+/// How a register's word is best read.
+#[derive(Clone, Copy, Debug)]
+pub enum Form {
+    Word,
+    Colour,
+    /// So many halves, the first lowest.
+    Halves(usize),
+    /// So many spot components, the first lowest.
+    Fixed(usize),
+    Float20,
+    Entry,
+    Fields(&'static [Field]),
+}
+
+pub fn form(register: u32) -> Form {
+    match register {
+        0x140..0x1C0 => match register & 0xF {
+            0x0..=0x3 => Form::Colour,
+            0x4 => Form::Halves(2),
+            0x5 => Form::Halves(1),
+            0x6 => Form::Fixed(2),
+            0x7 => Form::Fixed(1),
+            0x9 => Form::Fields(&LIGHT_FLAGS),
+            0xA | 0xB => Form::Float20,
+            _ => Form::Word,
+        },
+        0x1C0 => Form::Colour,
+        0x1C3 => Form::Fields(&CONFIG0),
+        0x1C4 => Form::Fields(&CONFIG1),
+        TABLE_INDEX => Form::Fields(&INDEX),
+        0x1C8..=0x1CF => Form::Entry,
+        0x1D0 => Form::Fields(&SIGNED),
+        0x1D1 => Form::Fields(&INPUT),
+        0x1D2 => Form::Fields(&SCALE),
+        _ => Form::Word,
+    }
+}
+
+/// The known word that is nearest to a mistaken one, if it is near.
+pub fn nearest<S: AsRef<str>>(text: &str, known: impl Iterator<Item = S>) -> Option<String> {
+    let most = if text.len() < 4 { 1 } else { (text.len() / 3).max(2) };
+    let near = known.map(|word| (distance(text, word.as_ref()), word)).filter(|(far, _)| *far <= most);
+    near.min_by_key(|(far, _)| *far).map(|(_, word)| word.as_ref().to_string())
+}
+
+/// How many letters have to be put in, taken out or changed.
+fn distance(a: &str, b: &str) -> usize {
+    let b: Vec<char> = b.chars().collect();
+    let mut row: Vec<usize> = (0..=b.len()).collect();
+    for (i, x) in a.chars().enumerate() {
+        let mut before = i;
+        row[0] = i + 1;
+        for (j, y) in b.iter().enumerate() {
+            let here = row[j + 1];
+            row[j + 1] = (before + (x != *y) as usize).min(here + 1).min(row[j] + 1);
+            before = here;
+        }
+    }
+    row[b.len()]
+}

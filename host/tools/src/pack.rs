@@ -1,0 +1,228 @@
+//! From a text to the bodies of a capture.
+
+use crate::bodies::{total_words, words, Body, Kind, FRAGMENT_WORDS, MOST_BODIES, MOST_WORDS, RESTORE_WORDS};
+use crate::curves::Curve;
+use crate::names::{self, nearest, REGISTERS, TABLE_DATA, TABLE_INDEX};
+use crate::values::{float, pair_writes, value, whole, word};
+use std::fmt;
+use std::fs;
+use std::path::Path;
+
+/// What is wrong with a text, and in which line, counted from 1.
+#[derive(Clone, Debug, PartialEq, Eq)]
+pub struct Wrong {
+    pub line: usize,
+    pub what: String,
+}
+
+impl fmt::Display for Wrong {
+    fn fmt(&self, f: &mut fmt::Formatter) -> fmt::Result {
+        write!(f, "line {}: {}", self.line, self.what)
+    }
+}
+
+/// The bodies of a text; a file that it names is looked for in `folder`.
+pub fn pack(text: &str, folder: &Path) -> Result<Vec<Body>, Wrong> {
+    let mut packer = Packer { bodies: vec![], folder };
+    for (at, line) in text.trim_start_matches('\u{FEFF}').lines().enumerate() {
+        let line = line.split_once('#').map_or(line, |(before, _)| before).trim();
+        packer.line(line).map_err(|what| Wrong { line: at + 1, what })?;
+    }
+    Ok(packer.bodies)
+}
+
+/// What a line can begin with.
+const LINES: [&str; 8] = ["write", "writes", "upload", "fragment", "hand", "restore", "table", "entries"];
+
+/// A fragment's parts and how many numbers each has.
+const PARTS: [(&str, usize); 6] = [("the quaternion", 4), ("the view", 3), ("texel 0", 4), ("texel 1", 4), ("texel 2", 4), ("texel 3", 4)];
+
+struct Packer<'a> {
+    bodies: Vec<Body>,
+    folder: &'a Path,
+}
+
+impl Packer<'_> {
+    fn line(&mut self, line: &str) -> Result<(), String> {
+        let (first, rest) = line.split_once(char::is_whitespace).map_or((line, ""), |(first, rest)| (first, rest.trim()));
+        let alone = |what: &str| if rest.is_empty() { Ok(()) } else { Err(format!("'{rest}' stands after '{what}', which stands alone")) };
+        match first {
+            "" => return Ok(()),
+            "write" => self.write(rest)?,
+            "upload" => self.upload(rest)?,
+            "writes" => alone("writes").and_then(|()| self.begin(Kind::Writes))?,
+            "hand" if rest == "over" => self.begin(Kind::Fragments)?,
+            "hand" => return Err("the line is 'hand over', without a number".into()),
+            "fragment" => {
+                let words = fragment(rest)?;
+                self.open(Kind::Fragments)?.extend(words);
+            }
+            "restore" => self.restore(rest)?,
+            "table" => self.table(rest)?,
+            "entries" => self.entries(rest)?,
+            other => {
+                let near = nearest(other, LINES.iter()).map_or(String::new(), |near| format!("; is it '{near}'?"));
+                return Err(format!("no line begins with '{other}'{near}"));
+            }
+        }
+        match total_words(&self.bodies) {
+            total if total > MOST_WORDS => Err(format!("with this line the capture has {} bytes, and 65536 is the most", 4 * total)),
+            _ => Ok(()),
+        }
+    }
+
+    /// Begins a body.
+    fn begin(&mut self, kind: Kind) -> Result<(), String> {
+        if self.bodies.len() == MOST_BODIES {
+            return Err("this line begins a seventeenth body, and 16 is the most".into());
+        }
+        self.bodies.push(Body { kind, words: vec![] });
+        Ok(())
+    }
+
+    /// The words of the last body, which is of this kind: a new one if it must be.
+    fn open(&mut self, kind: Kind) -> Result<&mut Vec<u32>, String> {
+        if self.bodies.last().is_none_or(|body| body.kind != kind) {
+            self.begin(kind)?;
+        }
+        self.bodies.last_mut().map(|body| &mut body.words).ok_or_else(String::new)
+    }
+
+    fn write(&mut self, rest: &str) -> Result<(), String> {
+        let (name, text) = rest.split_once(char::is_whitespace).map_or((rest, ""), |(name, text)| (name, text.trim()));
+        if name.is_empty() {
+            return Err("a write has a register and a value".into());
+        }
+        let writes = match names::pair(name) {
+            Some(pair) => pair_writes(pair, text)?.to_vec(),
+            None => {
+                let register = register(name)?;
+                vec![(register, value(names::form(register), text)?)]
+            }
+        };
+        self.open(Kind::Writes)?.extend(writes.iter().flat_map(|(register, value)| [*register, *value]));
+        Ok(())
+    }
+
+    fn upload(&mut self, rest: &str) -> Result<(), String> {
+        let (table, curve) = curved(rest)?;
+        let uploads = curve.uploads()?;
+        let words = self.open(Kind::Writes)?;
+        words.extend([TABLE_INDEX, (table as u32) << 8]);
+        words.extend(uploads.iter().flat_map(|upload| [TABLE_DATA, *upload]));
+        Ok(())
+    }
+
+    fn restore(&mut self, rest: &str) -> Result<(), String> {
+        let saved = match rest.split_once(char::is_whitespace).map_or((rest, ""), |(how, path)| (how, path.trim())) {
+            ("" | "zero", "") => vec![0; RESTORE_WORDS],
+            ("file", path) if !path.is_empty() => {
+                let bytes = fs::read(self.folder.join(path)).map_err(|e| format!("{path} cannot be read: {e}"))?;
+                if bytes.len() != 4 * RESTORE_WORDS {
+                    return Err(format!("{path} has {} bytes, and a restore has {}", bytes.len(), 4 * RESTORE_WORDS));
+                }
+                words(&bytes)
+            }
+            _ => return Err("a restore is 'restore', 'restore zero' or 'restore file NAME'".into()),
+        };
+        self.begin(Kind::Restore)?;
+        self.open(Kind::Restore)?.extend(saved);
+        Ok(())
+    }
+
+    /// The words of a table in the restore above.
+    fn restored(&mut self, table: usize) -> Result<&mut [u32], String> {
+        let body = self.bodies.last_mut().filter(|body| body.kind == Kind::Restore);
+        let words = body.and_then(|body| body.words.get_mut(512 * table..512 * (table + 1)));
+        words.ok_or_else(|| "the line belongs below a 'restore'; to upload a table there is 'upload'".into())
+    }
+
+    fn table(&mut self, rest: &str) -> Result<(), String> {
+        let (table, curve) = curved(rest)?;
+        self.restored(table)?.copy_from_slice(&curve.words());
+        Ok(())
+    }
+
+    fn entries(&mut self, rest: &str) -> Result<(), String> {
+        let texts: Vec<&str> = rest.split_whitespace().collect();
+        let [name, at, numbers @ ..] = &texts[..] else {
+            return Err("entries have a table, the first entry, and a value and a step for each".into());
+        };
+        let table = self.restored(table(name)?)?;
+        let words = numbers.iter().map(|text| float(text)).collect::<Result<Vec<u32>, String>>()?;
+        if words.is_empty() || words.len() % 2 != 0 {
+            return Err(format!("each entry has a value and a step; here are {} numbers", words.len()));
+        }
+        if let Some((from, to)) = at.split_once("..") {
+            let (from, to) = (whole(from, 255)? as usize, whole(to, 255)? as usize);
+            if from > to || words.len() != 2 {
+                return Err(format!("entries {at} are one value and one step for all of them, from the lower entry to the higher"));
+            }
+            table[2 * from..2 * (to + 1)].chunks_mut(2).for_each(|entry| entry.copy_from_slice(&words));
+        } else {
+            let from = 2 * whole(at, 255)? as usize;
+            let place = table.get_mut(from..from + words.len()).ok_or("the last of these entries is above 255")?;
+            place.copy_from_slice(&words);
+        }
+        Ok(())
+    }
+}
+
+fn register(name: &str) -> Result<u32, String> {
+    if name.starts_with(|c: char| c.is_ascii_digit()) {
+        return match word(name)? {
+            register if register < REGISTERS => Ok(register),
+            register => Err(format!("register {register} is above 473 (0x1D9), the last")),
+        };
+    }
+    // the eight are alike, so the first may carry its number
+    let name = if name == "table_data0" { "table_data" } else { name };
+    names::register(name).ok_or_else(|| {
+        let known = names::registers().iter().map(|(name, _)| name).chain(names::pairs().iter().map(|(name, _)| name));
+        let near = nearest(name, known).map_or(String::new(), |near| format!("; is it {near}?"));
+        format!("no register is called '{name}'{near}")
+    })
+}
+
+fn table(name: &str) -> Result<usize, String> {
+    names::table(name).ok_or_else(|| {
+        let near = nearest(name, names::TABLE_NAMES.iter()).filter(|near| !near.is_empty());
+        format!("no table is called '{name}'{}", near.map_or(String::new(), |near| format!("; is it {near}?")))
+    })
+}
+
+/// A table and the curve for it.
+fn curved(rest: &str) -> Result<(usize, Curve), String> {
+    let texts: Vec<&str> = rest.split_whitespace().collect();
+    match &texts[..] {
+        [name, curve @ ..] => Ok((table(name)?, Curve::of(curve)?)),
+        [] => Err("a table and a curve are missing, as 'distance0 falloff 8'".into()),
+    }
+}
+
+/// A fragment's words. Parts are told apart by commas, or by counting; those left out at the end are zero.
+fn fragment(rest: &str) -> Result<[u32; FRAGMENT_WORDS], String> {
+    let mut numbers: Vec<&str> = vec![];
+    if rest.contains(',') {
+        for (i, part) in rest.split(',').enumerate() {
+            let before = numbers.len();
+            numbers.extend(part.split_whitespace());
+            let (name, wanted) = PARTS.get(i).ok_or("a fragment has six parts: quaternion, view and four texels")?;
+            match numbers.len() - before {
+                count if count == *wanted => (),
+                count => return Err(format!("{name} has {wanted} numbers; here are {count}")),
+            }
+        }
+    } else {
+        numbers.extend(rest.split_whitespace());
+        if ![0, 4, 7, 11, 15, 19, 23].contains(&numbers.len()) {
+            let parts = "4 numbers for the quaternion, 3 for the view and 4 for each of four texels";
+            return Err(format!("a fragment has {parts}; here are {}", numbers.len()));
+        }
+    }
+    let mut words = [0; FRAGMENT_WORDS];
+    for (word, text) in words.iter_mut().zip(numbers) {
+        *word = float(text)?;
+    }
+    Ok(words)
+}
