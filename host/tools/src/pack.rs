@@ -60,6 +60,9 @@ impl Packer<'_> {
             "restore" => self.restore(rest)?,
             "table" => self.table(rest)?,
             "entries" => self.entries(rest)?,
+            other if names::register(other).is_some() || names::pair(other).is_some() => {
+                return Err(format!("a register is set by 'write {other} ...'"));
+            }
             other => {
                 let near = nearest(other, LINES.iter()).map_or(String::new(), |near| format!("; is it '{near}'?"));
                 return Err(format!("no line begins with '{other}'{near}"));

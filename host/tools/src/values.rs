@@ -258,6 +258,9 @@ pub fn value_text(form: Form, word: u32) -> String {
 
 /// The two writes of a name that stands for two registers.
 pub fn pair_writes(pair: Pair, text: &str) -> Result<[(u32, u32); 2], String> {
+    if text.contains('(') {
+        return Err("these are plain numbers, without a bracket".into());
+    }
     let texts: Vec<&str> = text.split([' ', '\t', ',']).filter(|text| !text.is_empty()).collect();
     match (pair, &texts[..]) {
         (Pair::Position(at), [x, y, z]) => Ok([(at, called("half", &[x, y])?), (at + 1, called("half", &[z])?)]),

@@ -3,7 +3,7 @@
 use lighting_tools::bodies::bytes;
 use lighting_tools::pack::pack;
 use lighting_tools::unpack::{counted, unpack};
-use std::io::{self, IsTerminal, Write};
+use std::io::{self, IsTerminal, Read, Write};
 use std::path::Path;
 use std::process::ExitCode;
 use std::{env, fs};
@@ -49,8 +49,15 @@ fn print(output: &[u8]) -> Result<ExitCode, String> {
     }
 }
 
+/// A file's bytes, or those of the standard input for `-`.
+fn read(name: &str) -> Result<Vec<u8>, String> {
+    let mut input = vec![];
+    let read = if name == "-" { io::stdin().read_to_end(&mut input).map(|_| input) } else { fs::read(name) };
+    read.map_err(|e| format!("{name}: {e}"))
+}
+
 fn packed(name: &str) -> Result<ExitCode, String> {
-    let input = fs::read(name).map_err(|e| format!("{name}: {e}"))?;
+    let input = read(name)?;
     if input.contains(&0) {
         return Err(format!("{name}: this is no text; if it is a capture, 'capture unpack' gives its text"));
     }
@@ -65,7 +72,7 @@ fn packed(name: &str) -> Result<ExitCode, String> {
 }
 
 fn unpacked(name: &str) -> Result<ExitCode, String> {
-    let input = fs::read(name).map_err(|e| format!("{name}: {e}"))?;
+    let input = read(name)?;
     let unpacked = unpack(&input);
     let code = print(unpacked.text.as_bytes())?;
     let Some(number) = unpacked.refusal else {

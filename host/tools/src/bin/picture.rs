@@ -120,6 +120,8 @@ fn picture(options: &Options) -> Result<usize, String> {
     println!("{out}: {} x {}, {} pixels by lightshow", canvas.width, canvas.height, fragments.len());
     if colours.iter().any(Option::is_none) {
         println!("the lighting is off: enable is not 1, or disable is 1");
+    } else if colours.iter().all(|k| panels(k) == [[0; 3]; 3]) {
+        println!("every pixel is black: docs/TEXT.md says what to look at");
     }
     let Some(rust) = rust else {
         if options.rust {

@@ -2,9 +2,11 @@ use super::{capture, errors, Folder};
 use lighting_tools::bodies::{bytes, Body, Kind};
 
 /// Texts, the line that is wrong, and what is said of it.
-const BAD: [(&str, usize, &str); 64] = [
+const BAD: [(&str, usize, &str); 67] = [
     ("wrtie enable 1", 1, "no line begins with 'wrtie'; is it 'write'?"),
     ("\n# fine\nwrite enable 1\nfrobnicate", 4, "no line begins with 'frobnicate'"),
+    ("lights 0 1", 1, "a register is set by 'write lights ...'"),
+    ("light0.diffuse rgb(1 2 3)", 1, "a register is set by 'write light0.diffuse ...'"),
     ("write", 1, "a write has a register and a value"),
     ("write enable", 1, "the value is missing"),
     ("write enable 1 2", 1, "'2' stands after the value"),
@@ -28,6 +30,7 @@ const BAD: [(&str, usize, &str); 64] = [
     ("write light0.position_z half(1e9)", 1, "1e9 is above 65504, the largest half"),
     ("write light0.position_z half(nan)", 1, "'nan' is not a number"),
     ("write light0.position 1 2", 1, "a position is three numbers, x, y and z"),
+    ("write light0.position half(1 2 3)", 1, "these are plain numbers, without a bracket"),
     ("write light0.spot 0 0 3", 1, "3 is not between -2 and 2"),
     ("write light0.distance 1", 1, "a distance is two numbers, the bias and the scale"),
     ("write lights", 1, "the lights are one to eight light numbers"),

@@ -87,6 +87,9 @@ fn what_cannot_be_drawn_is_said() {
     }
     let off = folder.file("off.txt", "write enable 0\n").display().to_string();
     assert!(said(&picture(&[&off, &out, "--size", "8"])).contains("the lighting is off"));
+    // the distance table of a fresh unit is zero
+    let black = folder.file("black.txt", "write enable 1\nwrite light0.diffuse rgb(255 255 255)\n").display().to_string();
+    assert!(said(&picture(&[&black, &out, "--size", "8"])).contains("every pixel is black"));
 }
 
 fn header(file: &[u8]) -> (u32, u32) {
