@@ -2,6 +2,7 @@
 
 mod bad_texts;
 mod damaged;
+mod documents;
 mod examples;
 mod pictures;
 mod random;

@@ -1,0 +1,76 @@
+use super::{errors, picture, repository, Folder};
+use lighting_tools::names::{form, pairs, registers, Form, TABLE_NAMES};
+use lighting_tools::pack::pack;
+use std::fs;
+use std::path::Path;
+
+fn document(name: &str) -> String {
+    fs::read_to_string(repository().join(name)).unwrap()
+}
+
+/// The texts of scenes that a document shows.
+fn scenes(document: &str) -> Vec<&str> {
+    let blocks = document.split("```text\n").skip(1).filter_map(|rest| rest.split("```").next());
+    blocks.filter(|block| ["write", "#", "restore"].iter().any(|first| block.starts_with(first))).collect()
+}
+
+#[test]
+fn the_texts_in_the_documents_pack() {
+    for (name, count) in [("docs/TEXT.md", 5), ("README.md", 1)] {
+        let document = document(name);
+        let scenes = scenes(&document);
+        assert_eq!(scenes.len(), count, "{name}");
+        for scene in scenes {
+            assert!(!pack(scene, Path::new("")).unwrap_or_else(|wrong| panic!("{name}: {wrong}\n{scene}")).is_empty());
+        }
+    }
+}
+
+/// The README's scene is not black.
+#[test]
+fn the_scene_in_the_readme_is_drawn() {
+    let (folder, readme) = (Folder::new(), document("README.md"));
+    let scene = folder.file("scene.txt", scenes(&readme)[0]).display().to_string();
+    let output = picture(&[&scene, &folder.0.join("scene.png").display().to_string(), "--size", "16"]);
+    assert!(output.status.success() && !String::from_utf8_lossy(&output.stdout).contains("black"), "{}", errors(&output));
+}
+
+#[test]
+fn the_picture_in_the_readme_is_what_its_commands_draw() {
+    let folder = Folder::new();
+    let out = folder.0.join("out.png");
+    let scene = repository().join("examples/eight_lights.txt").display().to_string();
+    assert!(document("README.md").contains("picture examples/eight_lights.txt docs/eight_lights.png --no-rust\n"));
+    let output = picture(&[&scene, out.to_str().unwrap(), "--no-rust"]);
+    assert!(output.status.success(), "{}", errors(&output));
+    assert!(fs::read(out).unwrap() == fs::read(repository().join("docs/eight_lights.png")).unwrap());
+}
+
+/// Every register, table and field is on the page; of eight lights or tables the first and the last.
+#[test]
+fn the_page_has_every_name() {
+    let page = document("docs/TEXT.md");
+    let shown = |name: &str| page.contains(&format!("`{name}`")) || page.contains(&format!("`{name}="));
+    let numbered =
+        |name: &str| name.strip_suffix(|c: char| c.is_ascii_digit()).is_some_and(|name| [0, 7].iter().all(|n| shown(&format!("{name}{n}"))));
+    for (name, register) in registers() {
+        let part = name.strip_prefix("light").and_then(|rest| rest.split_once('.')).map(|(_, part)| format!(".{part}"));
+        let here = shown(name) || part.is_some_and(|part| shown(&part) || shown(&format!("light0{part}"))) || name.starts_with("table_data");
+        assert!(here, "{name}");
+        if let Form::Fields(fields) = form(*register) {
+            for field in fields {
+                assert!(shown(field.name) || numbered(field.name), "{}", field.name);
+                for (number, _) in field.numbers.unwrap_or(&[]) {
+                    let table = TABLE_NAMES.contains(number);
+                    assert!(table || shown(number) || page.contains(&format!("{}={number}`", field.name)), "{}={number}", field.name);
+                }
+            }
+        }
+    }
+    for table in TABLE_NAMES.iter().filter(|name| !name.is_empty()) {
+        assert!(shown(table) || numbered(table), "{table}");
+    }
+    for (name, _) in pairs() {
+        assert!(page.contains(&format!("write {} ", name.replace(char::is_numeric, "0"))), "{name}");
+    }
+}
