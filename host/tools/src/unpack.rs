@@ -85,9 +85,11 @@ fn table_lines(table: usize, words: &[u32]) -> String {
             let _ = writeln!(text, "entries {name} {at}..{}{}", at + equal - 1, numbers(entries[at]));
             at += equal;
         } else {
-            let row: String = entries[at..].iter().take(4).map(|entry| numbers(entry)).collect();
+            // a row ends where a run begins
+            let end = (at + 1..entries.len().min(at + 4)).find(|next| run(*next) > 2).unwrap_or(entries.len().min(at + 4));
+            let row: String = entries[at..end].iter().map(|entry| numbers(entry)).collect();
             let _ = writeln!(text, "entries {name} {at}{row}");
-            at += 4;
+            at = end;
         }
     }
     text

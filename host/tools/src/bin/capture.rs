@@ -87,5 +87,9 @@ fn unpacked(name: &str) -> Result<ExitCode, String> {
             eprintln!("{name}: and {} like it", counted(places.len() - 3, "place", "places"));
         }
     }
+    // a capture's first word has zero bytes, a text has none
+    if !input.is_empty() && !input.contains(&0) && std::str::from_utf8(&input).is_ok() {
+        return Err(format!("{name}: this looks like a text; 'capture pack' makes a capture of it"));
+    }
     Err(format!("{name}: lightshow refuses this capture with {number}; the text goes as far as it can be read"))
 }

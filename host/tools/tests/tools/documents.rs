@@ -1,4 +1,6 @@
-use super::{errors, picture, repository, Folder};
+use super::{errors, lightshow, picture, repository, Folder};
+use lighting_tools::bodies::bytes;
+use lighting_tools::drawing::run;
 use lighting_tools::names::{form, pairs, registers, Form, TABLE_NAMES};
 use lighting_tools::pack::pack;
 use std::fs;
@@ -26,13 +28,15 @@ fn the_texts_in_the_documents_pack() {
     }
 }
 
-/// The README's scene is not black.
+/// The README's scene is not black, and its fragment has the colours that stand there.
 #[test]
 fn the_scene_in_the_readme_is_drawn() {
     let (folder, readme) = (Folder::new(), document("README.md"));
     let scene = folder.file("scene.txt", scenes(&readme)[0]).display().to_string();
     let output = picture(&[&scene, &folder.0.join("scene.png").display().to_string(), "--size", "16"]);
     assert!(output.status.success() && !String::from_utf8_lossy(&output.stdout).contains("black"), "{}", errors(&output));
+    let printed = run(&lightshow(), &bytes(&pack(scenes(&readme)[0], Path::new("")).unwrap())).unwrap();
+    assert!(readme.contains(&format!("here `{}`", printed.trim_end())), "{printed}");
 }
 
 #[test]

@@ -1,7 +1,8 @@
 use super::Folder;
-use lighting_tools::bodies::{words, Body, Kind};
+use lighting_tools::bodies::{bytes, words, Body, Kind};
 use lighting_tools::names::{form, Form};
 use lighting_tools::pack::pack;
+use lighting_tools::unpack::unpack;
 use lighting_tools::values::{float, float_text, value, value_text};
 use std::path::Path;
 
@@ -140,7 +141,7 @@ fn floats_keep_their_bits() {
 
 #[test]
 fn curves_and_restores() {
-    let restored = |text: &str| words(&lighting_tools::bodies::bytes(&bodies(text)))[4..].to_vec();
+    let restored = |text: &str| words(&bytes(&bodies(text)))[4..].to_vec();
     let table = |text: &str, table: usize| {
         restored(&format!("restore\n{text}"))[512 * table..][..512].iter().map(|word| f32::from_bits(*word)).collect::<Vec<_>>()
     };
@@ -188,4 +189,22 @@ fn an_upload_is_257_writes() {
     let falling = writes("upload 0 ramp 1 0");
     assert!(falling[1..].iter().all(|[_, word]| word >> 23 == 1));
     assert_eq!(falling[1][1], 0x0080_8FFF);
+}
+
+/// A restore's text has no line for what is zero, one for each run, and four other entries to a line.
+#[test]
+fn a_restore_is_printed_by_runs() {
+    let text = "restore\ntable distribution0 steps 3\nentries 2 5 1 2 3 4 5 6 7 8 9 10\n";
+    let printed = unpack(&bytes(&bodies(text))).text;
+    let lines: Vec<&str> = printed.lines().skip_while(|line| *line != "restore").collect();
+    let expected = [
+        "restore",
+        "entries distribution0 85 0 0.5",
+        "entries distribution0 86..169 0.5 0",
+        "entries distribution0 170 0.5 0.5",
+        "entries distribution0 171..255 1 0",
+        "entries 2 5 1 2 3 4 5 6 7 8",
+        "entries 2 9 9 10",
+    ];
+    assert_eq!(lines, expected);
 }
