@@ -31,6 +31,17 @@ pub fn pack(text: &str, folder: &Path) -> Result<Vec<Body>, Wrong> {
     Ok(packer.bodies)
 }
 
+/// The bodies of a text's file as it was read; what is wrong is said with the file's name, and the line where there is one.
+pub fn pack_file(name: &str, input: &[u8]) -> Result<Vec<Body>, String> {
+    if input.contains(&0) {
+        return Err(format!("{name}: this is no text; if it is a capture, 'capture unpack' gives its text"));
+    }
+    let line = |valid: usize| 1 + input[..valid].iter().filter(|byte| **byte == b'\n').count();
+    let text = std::str::from_utf8(input).map_err(|e| format!("{name}:{}: the line is not UTF-8", line(e.valid_up_to())))?;
+    let folder = Path::new(name).parent().unwrap_or(Path::new(""));
+    pack(text, folder).map_err(|wrong| format!("{name}:{}: {}", wrong.line, wrong.what))
+}
+
 /// What a line can begin with.
 const LINES: [&str; 8] = ["write", "writes", "upload", "fragment", "hand", "restore", "table", "entries"];
 

@@ -142,8 +142,8 @@ fn tokens(data: &[u8]) -> Vec<Token> {
     out
 }
 
-/// The code of a number that is coded by ranges: its range, its place in it, and the bits of the place. From the fifth range on, every
-/// `per` ranges are twice as long as those before.
+/// The code of a number that is coded by ranges: its range, its place in it, and the bits of the place. The first 2 · `per` ranges have one
+/// number each, and then every `per` ranges are twice as long as those before.
 fn ranged(number: usize, per: usize) -> (usize, u32, u32) {
     let (mut code, mut from, mut bits) = (0, 0, 0);
     while number - from >= 1 << bits {
@@ -200,14 +200,14 @@ fn codes(lengths: &[u32]) -> Vec<(u32, u32)> {
     codes
 }
 
+/// One block of data, with codes of its own.
 fn deflated(data: &[u8]) -> Vec<u8> {
     let tokens = tokens(data);
+    // each symbol's count; two of each kind at least, so that there are codes to tell apart
     let (mut symbols, mut distances) = ([0; 286], [0; 30]);
+    symbols[0] = 1;
     symbols[256] = 1;
-    // so that there are always two codes to tell apart
-    distances[0] = 1;
-    distances[1] = 1;
-    symbols[0] += 1;
+    distances[..2].fill(1);
     for token in &tokens {
         match token {
             Token::Byte(byte) => symbols[*byte as usize] += 1,
@@ -217,30 +217,13 @@ fn deflated(data: &[u8]) -> Vec<u8> {
             }
         }
     }
-    let (symbol_lengths, distance_lengths) = (code_lengths(&symbols), code_lengths(&distances));
+    let lengths = [code_lengths(&symbols), code_lengths(&distances)];
+    let [symbols, distances] = [0, 1].map(|kind| codes(&lengths[kind]));
     let mut bits = Bits::default();
-    // the last block, with codes of its own: 286 symbols, 30 distances, 19 lengths
-    bits.put(0b101, 3);
-    bits.put(29, 5);
-    bits.put(29, 5);
-    bits.put(15, 4);
-    // the lengths themselves: 0 to 12 in four bits, 13 to 15 and the three repeats, which are not used, in five
-    for length in [16, 17, 18, 0, 8, 7, 9, 6, 10, 5, 11, 4, 12, 3, 13, 2, 14, 1, 15] {
-        bits.put(if length < 13 { 4 } else { 5 }, 3);
-    }
-    let fixed: Vec<u32> = (0..19).map(|length| if length < 13 { 4 } else { 5 }).collect();
-    let fixed = codes(&fixed);
-    for length in symbol_lengths.iter().chain(&distance_lengths) {
-        let (code, count) = fixed[*length as usize];
-        bits.put(code, count);
-    }
-    let (symbols, distances) = (codes(&symbol_lengths), codes(&distance_lengths));
+    put_lengths(&mut bits, &lengths.concat());
     for token in &tokens {
         match token {
-            Token::Byte(byte) => {
-                let (code, count) = symbols[*byte as usize];
-                bits.put(code, count);
-            }
+            Token::Byte(byte) => bits.put(symbols[*byte as usize].0, symbols[*byte as usize].1),
             Token::Copy(length, distance) => {
                 for ((symbol, place, more), codes) in [(length_code(*length), &symbols), (ranged(distance - 1, 2), &distances)] {
                     bits.put(codes[symbol].0, codes[symbol].1);
@@ -251,4 +234,21 @@ fn deflated(data: &[u8]) -> Vec<u8> {
     }
     bits.put(symbols[256].0, symbols[256].1);
     bits.end()
+}
+
+/// The head of the last block: its 286 symbols' and 30 distances' code lengths. They are coded themselves, 0 to 12 in four bits, and 13 to 15
+/// and the three repeats, which are not used, in five.
+fn put_lengths(bits: &mut Bits, lengths: &[u32]) {
+    for (number, count) in [(0b101, 3), (286 - 257, 5), (30 - 1, 5), (19 - 4, 4)] {
+        bits.put(number, count);
+    }
+    let width = |length: u32| if length < 13 { 4 } else { 5 };
+    for length in [16, 17, 18, 0, 8, 7, 9, 6, 10, 5, 11, 4, 12, 3, 13, 2, 14, 1, 15] {
+        bits.put(width(length), 3);
+    }
+    let coded = codes(&(0..19).map(width).collect::<Vec<_>>());
+    for length in lengths {
+        let (code, count) = coded[*length as usize];
+        bits.put(code, count);
+    }
 }

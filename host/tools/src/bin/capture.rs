@@ -1,10 +1,9 @@
 //! Captures from text and back.
 
 use lighting_tools::bodies::bytes;
-use lighting_tools::pack::pack;
+use lighting_tools::pack::pack_file;
 use lighting_tools::unpack::{counted, unpack};
 use std::io::{self, IsTerminal, Read, Write};
-use std::path::Path;
 use std::process::ExitCode;
 use std::{env, fs};
 
@@ -57,14 +56,7 @@ fn read(name: &str) -> Result<Vec<u8>, String> {
 }
 
 fn packed(name: &str) -> Result<ExitCode, String> {
-    let input = read(name)?;
-    if input.contains(&0) {
-        return Err(format!("{name}: this is no text; if it is a capture, 'capture unpack' gives its text"));
-    }
-    let line = |valid: usize| 1 + input[..valid].iter().filter(|byte| **byte == b'\n').count();
-    let text = std::str::from_utf8(&input).map_err(|e| format!("{name}:{}: the line is not UTF-8", line(e.valid_up_to())))?;
-    let folder = Path::new(name).parent().unwrap_or(Path::new(""));
-    let bodies = pack(text, folder).map_err(|wrong| format!("{name}:{}: {}", wrong.line, wrong.what))?;
+    let bodies = pack_file(name, &read(name)?)?;
     if io::stdout().is_terminal() {
         return Err(format!("a capture is no text for a terminal: capture pack {name} > FILE"));
     }

@@ -1,11 +1,12 @@
 //! Pictures of scenes, coloured by lightshow.
 
-use lighting_tools::drawing::{self, panels, Canvas, Colours};
-use lighting_tools::pack::pack;
+use lighting_tools::bodies::Body;
+use lighting_tools::drawing::{self, differences, panels, Canvas, Colours};
+use lighting_tools::pack::pack_file;
 use lighting_tools::png;
 use lighting_tools::shapes::{fragments, Fragment, Shape};
 use std::io::{self, IsTerminal};
-use std::path::{Path, PathBuf};
+use std::path::PathBuf;
 use std::process::ExitCode;
 use std::{env, fs};
 
@@ -48,7 +49,7 @@ fn options(arguments: impl Iterator<Item = String>) -> Result<Options, String> {
             }
             "--size" => {
                 let text = value()?;
-                options.size = text.parse().ok().filter(|n| (1..=2048).contains(n)).ok_or(format!("'{text}' is not a size from 1 to 2048"))?;
+                options.size = text.parse().ok().filter(|n| (1..=1024).contains(n)).ok_or(format!("'{text}' is not a size from 1 to 1024"))?;
             }
             "--hand-over" => {
                 let text = value()?;
@@ -86,38 +87,43 @@ fn picture(options: &Options) -> Result<usize, String> {
     if !out.ends_with(".png") {
         return Err(format!("{out} does not end in .png; {USAGE}"));
     }
-    let text = fs::read_to_string(scene).map_err(|e| format!("{scene}: {e}"))?;
-    let folder = Path::new(scene).parent().unwrap_or(Path::new(""));
-    let bodies = pack(&text, folder).map_err(|wrong| format!("{scene}:{}: {}", wrong.line, wrong.what))?;
+    let bodies = pack_file(scene, &fs::read(scene).map_err(|e| format!("{scene}: {e}"))?)?;
     let setup = drawing::setup(&bodies, options.hand_over).map_err(|what| format!("{scene}: {what}"))?;
-    let lightshow = drawing::lightshow(options.lightshow.as_deref())?;
-
     let places = fragments(options.shape, options.size);
     let seen: Vec<bool> = places.iter().map(Option::is_some).collect();
     let fragments: Vec<Fragment> = places.into_iter().flatten().collect();
-    let shown = io::stderr().is_terminal();
-    let progress = |done: usize| {
-        if shown {
-            eprint!("\r{scene}: {} of {} pixels", done, fragments.len());
-        }
-    };
-    let colours = drawing::draw(&lightshow, &setup, &fragments, progress);
-    if shown {
-        // the line is wiped, so that what follows stands alone
-        eprint!("\r\x1b[K");
-    }
-    let colours = colours.map_err(|what| format!("{scene}: {what}"))?;
 
+    let colours = ours(options, &setup, &fragments)?;
     let rust = if options.rust { theirs(&setup, &fragments) } else { None };
     let mut canvas = Canvas::new(options.size, if rust.is_some() { 3 } else { 1 });
     canvas.paint(0, &seen, colours.iter().map(panels));
     if let Some(rust) = &rust {
         canvas.paint(1, &seen, rust.iter().map(panels));
-        canvas.paint(2, &seen, colours.iter().zip(rust).map(|(ours, theirs)| drawing::differences(ours, theirs)));
+        canvas.paint(2, &seen, colours.iter().zip(rust).map(|(ours, theirs)| differences(ours, theirs)));
     }
     fs::write(out, png::file(canvas.width, canvas.height, &canvas.pixels)).map_err(|e| format!("{out}: {e}"))?;
-
     println!("{out}: {} x {}, {} pixels by lightshow", canvas.width, canvas.height, fragments.len());
+    Ok(report(options, &colours, rust.as_deref()))
+}
+
+/// The proved program's colours, with a line that tells how far it is where the errors go to a terminal.
+fn ours(options: &Options, setup: &[Body], fragments: &[Fragment]) -> Result<Vec<Colours>, String> {
+    let (scene, shown) = (&options.scene, io::stderr().is_terminal());
+    let lightshow = drawing::lightshow(options.lightshow.as_deref())?;
+    let colours = drawing::draw(&lightshow, setup, fragments, |done| {
+        if shown {
+            eprint!("\r{scene}: {done} of {} pixels", fragments.len());
+        }
+    });
+    if shown {
+        // the line is wiped, so that what follows stands alone
+        eprint!("\r\x1b[K");
+    }
+    colours.map_err(|what| format!("{scene}: {what}"))
+}
+
+/// Says what is to be said of the colours, and gives the number of pixels that differ.
+fn report(options: &Options, colours: &[Colours], rust: Option<&[Colours]>) -> usize {
     if colours.iter().any(Option::is_none) {
         println!("the lighting is off: enable is not 1, or disable is 1");
     } else if colours.iter().all(|k| panels(k) == [[0; 3]; 3]) {
@@ -127,19 +133,19 @@ fn picture(options: &Options) -> Result<usize, String> {
         if options.rust {
             println!("nothing was compared: the tools were built without the Rust module (LIGHTING_RS names its file)");
         }
-        return Ok(0);
+        return 0;
     };
-    let differ = colours.iter().zip(&rust).filter(|(ours, theirs)| ours != theirs).count();
-    println!("{differ} pixels differ of {} from the Rust module's", fragments.len());
-    Ok(differ)
+    let differ = colours.iter().zip(rust).filter(|(ours, theirs)| ours != theirs).count();
+    println!("{differ} pixels differ of {} from the Rust module's", colours.len());
+    differ
 }
 
 #[cfg(oracle)]
-fn theirs(setup: &[lighting_tools::bodies::Body], fragments: &[Fragment]) -> Option<Vec<Colours>> {
+fn theirs(setup: &[Body], fragments: &[Fragment]) -> Option<Vec<Colours>> {
     Some(lighting_tools::rust::draw(setup, fragments))
 }
 
 #[cfg(not(oracle))]
-fn theirs(_: &[lighting_tools::bodies::Body], _: &[Fragment]) -> Option<Vec<Colours>> {
+fn theirs(_: &[Body], _: &[Fragment]) -> Option<Vec<Colours>> {
     None
 }

@@ -56,6 +56,27 @@ fn pictures_are_the_rust_modules() {
     }
 }
 
+/// A program that colours its first fragment otherwise is found out, and the picture shows where.
+#[cfg(all(oracle, unix))]
+#[test]
+fn a_pixel_that_differs_is_counted() {
+    use std::os::unix::fs::PermissionsExt;
+    let folder = Folder::new();
+    let script = format!("#!/bin/sh\n'{}' | sed '1s/[0-9]* /7 /'\n", super::lightshow().display());
+    let wrong = folder.file("wrong", script);
+    fs::set_permissions(&wrong, fs::Permissions::from_mode(0o755)).unwrap();
+    let out = folder.0.join("out.png");
+    let scene = example("lamp.txt");
+    let output = picture(&[&scene, out.to_str().unwrap(), "--size", "16", "--shape", "plane", "--lightshow", wrong.to_str().unwrap()]);
+    assert_eq!(output.status.code(), Some(1));
+    assert!(String::from_utf8_lossy(&output.stdout).contains("1 pixels differ of 256 from the Rust module's"), "{}", errors(&output));
+    // three rows of 52 pixels by 18, margins of one: the third row's panels are black but for the first pixel of the primary and of the sum
+    let pixels = read(&fs::read(&out).unwrap(), 52);
+    let first = (1 + 2 * 17) * 52 + 1;
+    let white: Vec<usize> = (first..52 * 52).filter(|at| pixels[3 * at..3 * at + 3] == [255; 3]).collect();
+    assert_eq!(white, [first, first + 2 * 17]);
+}
+
 #[test]
 fn what_cannot_be_drawn_is_said() {
     let folder = Folder::new();
@@ -67,7 +88,7 @@ fn what_cannot_be_drawn_is_said() {
     for (arguments, what) in [
         (&[lamp.as_str()][..], "picture is run as"),
         (&[&lamp, "out.jpg"], "out.jpg does not end in .png"),
-        (&[&lamp, &out, "--size", "0"], "'0' is not a size from 1 to 2048"),
+        (&[&lamp, &out, "--size", "0"], "'0' is not a size from 1 to 1024"),
         (&[&lamp, &out, "--shape", "cube"], "there are sphere, plane and both"),
         (&[&lamp, &out, "--hand-over", "2"], "there is no hand-over 2 in the scene: it has 1"),
         (&[&lamp, &out, "--lightshow", "/nowhere"], "there is no lightshow at /nowhere"),
