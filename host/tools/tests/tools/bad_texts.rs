@@ -1,5 +1,10 @@
-use super::{capture, errors, Folder};
+use super::random::Random;
+use super::{capture, errors, repository, Folder};
 use lighting_tools::bodies::{bytes, Body, Kind};
+use lighting_tools::pack::pack;
+use lighting_tools::unpack::unpack;
+use std::fs;
+use std::path::Path;
 
 /// Texts, the line that is wrong, and what is said of it.
 const BAD: [(&str, usize, &str); 67] = [
@@ -115,4 +120,41 @@ fn other_files_are_told_apart() {
     assert!(output.status.code() == Some(1) && errors(&output).contains("a.txt:2: the line is not UTF-8"));
     let output = capture("pack", &folder.0.join("none.txt"));
     assert!(output.status.code() == Some(1) && errors(&output).contains("none.txt: "));
+}
+
+/// Whatever a text has become, it is packed or refused; what is packed is a capture.
+#[test]
+fn texts_with_slips_are_packed_or_refused() {
+    let mut r = Random(6);
+    let names = ["lamp", "lantern", "spotlight", "eight_lights", "bump_and_shadow", "whole_case"];
+    let texts = names.map(|name| fs::read_to_string(repository().join(format!("examples/{name}.txt"))).unwrap());
+    let more = "restore\ntable spot0 signed cone -0.5 0.5\nentries 3 4..9 1 -2\nentries fresnel 250 1 2 3 4\nhand over\nwrites\nwrite 0x1D9 7\n";
+    let (mut packed, mut refused) = (0, 0);
+    for _ in 0..4_000 {
+        let mut text: Vec<char> = [&texts[r.below(6) as usize], more].concat().chars().collect();
+        // only a few lines, so that most slips are met
+        let from = r.below(text.len() as u32) as usize;
+        text = text[from..].iter().copied().skip_while(|c| *c != '\n').take(200).collect();
+        for _ in 0..r.below(4) {
+            let at = r.below(text.len().max(1) as u32) as usize;
+            let slip = ['0', '9', '-', '.', ' ', '\n', '(', ')', ',', '=', 'x', 'e', 'é', '\u{0}', '#'][r.below(15) as usize];
+            match r.below(3) {
+                0 if at < text.len() => drop(text.remove(at)),
+                1 if at < text.len() => text[at] = slip,
+                _ => text.insert(at, slip),
+            }
+        }
+        let text: String = text.into_iter().collect();
+        match pack(&text, Path::new("")) {
+            Ok(bodies) => {
+                packed += 1;
+                assert_eq!(unpack(&bytes(&bodies)).refusal, None, "{text}");
+            }
+            Err(wrong) => {
+                refused += 1;
+                assert!((1..=text.lines().count()).contains(&wrong.line) && !wrong.what.is_empty(), "{wrong}\n{text}");
+            }
+        }
+    }
+    assert!(packed > 500 && refused > 500, "{packed} packed, {refused} refused");
 }

@@ -39,15 +39,23 @@ fn the_scene_in_the_readme_is_drawn() {
     assert!(readme.contains(&format!("here `{}`", printed.trim_end())), "{printed}");
 }
 
+/// The documents' pictures are what the commands in them draw.
 #[test]
-fn the_picture_in_the_readme_is_what_its_commands_draw() {
-    let folder = Folder::new();
-    let out = folder.0.join("out.png");
-    let scene = repository().join("examples/eight_lights.txt").display().to_string();
-    assert!(document("README.md").contains("picture examples/eight_lights.txt docs/eight_lights.png --no-rust\n"));
-    let output = picture(&[&scene, out.to_str().unwrap(), "--no-rust"]);
-    assert!(output.status.success(), "{}", errors(&output));
-    assert!(fs::read(out).unwrap() == fs::read(repository().join("docs/eight_lights.png")).unwrap());
+fn the_pictures_in_the_documents_are_drawn_again() {
+    let (folder, mut count) = (Folder::new(), 0);
+    for text in [document("README.md"), document("docs/TEXT.md")] {
+        let commands = text.lines().filter_map(|line| line.trim().split_once("picture examples/").map(|(_, rest)| rest));
+        for command in commands {
+            let words: Vec<&str> = command.split(' ').collect();
+            let scene = repository().join("examples").join(words[0]).display().to_string();
+            let out = folder.0.join("out.png");
+            let output = picture(&[&[&scene, out.to_str().unwrap()], &words[2..]].concat());
+            assert!(output.status.success(), "{}", errors(&output));
+            assert!(fs::read(out).unwrap() == fs::read(repository().join(words[1])).unwrap(), "{command}");
+            count += 1;
+        }
+    }
+    assert_eq!(count, 3);
 }
 
 /// Every register, table and field is on the page; of eight lights or tables the first and the last.
