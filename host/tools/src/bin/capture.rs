@@ -48,15 +48,19 @@ fn print(output: &[u8]) -> Result<ExitCode, String> {
     }
 }
 
-/// A file's bytes, or those of the standard input for `-`.
-fn read(name: &str) -> Result<Vec<u8>, String> {
+/// A file's bytes, or those of the standard input for `-`, and what it is called.
+fn read(name: &str) -> Result<(Vec<u8>, &str), String> {
     let mut input = vec![];
-    let read = if name == "-" { io::stdin().read_to_end(&mut input).map(|_| input) } else { fs::read(name) };
-    read.map_err(|e| format!("{name}: {e}"))
+    let (read, name) = match name {
+        "-" => (io::stdin().read_to_end(&mut input).map(|_| input), "standard input"),
+        _ => (fs::read(name), name),
+    };
+    read.map(|input| (input, name)).map_err(|e| format!("{name}: {e}"))
 }
 
 fn packed(name: &str) -> Result<ExitCode, String> {
-    let bodies = pack_file(name, &read(name)?)?;
+    let (input, name) = read(name)?;
+    let bodies = pack_file(name, &input)?;
     if io::stdout().is_terminal() {
         return Err(format!("a capture is no text for a terminal: capture pack {name} > FILE"));
     }
@@ -64,7 +68,7 @@ fn packed(name: &str) -> Result<ExitCode, String> {
 }
 
 fn unpacked(name: &str) -> Result<ExitCode, String> {
-    let input = read(name)?;
+    let (input, name) = read(name)?;
     let unpacked = unpack(&input);
     let code = print(unpacked.text.as_bytes())?;
     let Some(number) = unpacked.refusal else {

@@ -5,7 +5,7 @@ use lighting_tools::drawing::{self, differences, panels, Canvas, Colours};
 use lighting_tools::pack::pack_file;
 use lighting_tools::png;
 use lighting_tools::shapes::{fragments, Fragment, Shape};
-use std::io::{self, IsTerminal};
+use std::io::{self, IsTerminal, Write};
 use std::path::PathBuf;
 use std::process::ExitCode;
 use std::{env, fs};
@@ -68,7 +68,7 @@ fn options(arguments: impl Iterator<Item = String>) -> Result<Options, String> {
 fn main() -> ExitCode {
     let mut arguments = env::args().skip(1).peekable();
     if arguments.peek().is_some_and(|first| ["--help", "-h", "help"].contains(&first.as_str())) {
-        print!("{HELP}");
+        say(HELP.trim_end());
         return ExitCode::SUCCESS;
     }
     match options(arguments).and_then(|options| picture(&options)) {
@@ -79,6 +79,11 @@ fn main() -> ExitCode {
             ExitCode::FAILURE
         }
     }
+}
+
+/// Prints a line, if anyone still reads.
+fn say(line: &str) {
+    let _ = writeln!(io::stdout(), "{line}");
 }
 
 /// Draws the picture, and gives the number of pixels that differ from the Rust's.
@@ -102,7 +107,7 @@ fn picture(options: &Options) -> Result<usize, String> {
         canvas.paint(2, &seen, colours.iter().zip(rust).map(|(ours, theirs)| differences(ours, theirs)));
     }
     fs::write(out, png::file(canvas.width, canvas.height, &canvas.pixels)).map_err(|e| format!("{out}: {e}"))?;
-    println!("{out}: {} x {}, {} pixels by lightshow", canvas.width, canvas.height, fragments.len());
+    say(&format!("{out}: {} x {}, {} pixels by lightshow", canvas.width, canvas.height, fragments.len()));
     Ok(report(options, &colours, rust.as_deref()))
 }
 
@@ -125,18 +130,18 @@ fn ours(options: &Options, setup: &[Body], fragments: &[Fragment]) -> Result<Vec
 /// Says what is to be said of the colours, and gives the number of pixels that differ.
 fn report(options: &Options, colours: &[Colours], rust: Option<&[Colours]>) -> usize {
     if colours.iter().any(Option::is_none) {
-        println!("the lighting is off: enable is not 1, or disable is 1");
+        say("the lighting is off: enable is not 1, or disable is 1");
     } else if colours.iter().all(|k| panels(k) == [[0; 3]; 3]) {
-        println!("every pixel is black: docs/TEXT.md says what to look at");
+        say("every pixel is black: docs/TEXT.md says what to look at");
     }
     let Some(rust) = rust else {
         if options.rust {
-            println!("nothing was compared: the tools were built without the Rust module (LIGHTING_RS names its file)");
+            say("nothing was compared: the tools were built without the Rust module (LIGHTING_RS names its file)");
         }
         return 0;
     };
     let differ = colours.iter().zip(rust).filter(|(ours, theirs)| ours != theirs).count();
-    println!("{differ} pixels differ of {} from the Rust module's", colours.len());
+    say(&format!("{differ} pixels differ of {} from the Rust module's", colours.len()));
     differ
 }
 
