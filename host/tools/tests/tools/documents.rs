@@ -28,6 +28,18 @@ fn the_texts_in_the_documents_pack() {
     }
 }
 
+/// So do the lines in their sentences and tables.
+#[test]
+fn the_lines_in_the_page_pack() {
+    let page = document("docs/TEXT.md");
+    let lines = page.split('`').filter(|part| ["write ", "upload "].iter().any(|first| part.starts_with(first)) && !part.contains('\n'));
+    let lines: Vec<&str> = lines.filter(|line| !line.contains(char::is_uppercase)).collect();
+    assert!(lines.len() > 5);
+    for line in lines {
+        assert!(pack(line, Path::new("")).is_ok(), "{line}");
+    }
+}
+
 /// The README's scene is not black, and its fragment has the colours that stand there.
 #[test]
 fn the_scene_in_the_readme_is_drawn() {
