@@ -1,12 +1,14 @@
 pub mod Words
 pub mod WordsLaws
 pub mod Numbers
+pub mod NanLaws
 pub mod ValueLaws
+pub mod CompareLaws
+pub mod CastLaws
 pub mod Order
 pub mod OrderLaws
 pub mod Floor
 pub mod FloorLaws
-pub mod Whole
 pub mod Places
 pub mod PlacesLaws
 pub mod Quantize

@@ -1,2 +1,3 @@
-mod Words
+mod Shape
+mod Forms
 mod Answers

@@ -1,4 +1,2 @@
-mod Plain
-mod Parts
 mod Lights
 mod Answers

@@ -1,38 +1,55 @@
--- The lights, slot by slot: each that is put after the first s is the definition's next, and eight are all. Assumes nothing.
-use Prim.Native.Nat.{ℕ, zero, suc, _+_, _<_}
-use native.Mathlib.Numerals.{add-one}
+-- The lights as they are filled in, slot by slot: the first s are the definition's and the rest are blank. Once s has reached the count nothing is missing,
+-- since the definition's lights are blank beyond it. Assumes nothing.
+use Prim.Native.Nat.{ℕ, zero, suc, _+_, _≤_, _<_}
 use native.Mathlib.Omega.{arith}
-use mathlib.Core.Path.{_≡_, refl, sym, _∙_}
-use mathlib.Core.List.{List}
-use lib.ListN.{length, getD, take, set}
-use lib.Seq.{take-all, take-suc, take-suc-set}
+use mathlib.Core.Path.{_≡_, refl, sym}
+use mathlib.Core.Bool.{Bool, true, false, cond}
+use mathlib.Core.List.{List, [], _∷_}
+use lib.Dec.{ltb}
+use lib.ListN.{set}
+use borrow.Author.Tests.{ltb-false, lt-ltb, le-ltb}
 use Rattle.lighting.specs.declared.Light.{Light}
-use Rattle.block.specs.Words.{noLight}
-use Rattle.block.specs.Reading.{slotLight, lightsOf}
+use Rattle.lighting.specs.Blank.{blankLight}
+use Rattle.block.specs.Formed.{from, slotAt}
+use Rattle.block.specs.Reading.{lightOf, slotLight, lightsOf}
 
 module _ (w : ℕ → ℕ) where
-  slot : (s : ℕ) → s < 8 → getD (lightsOf w) s noLight ≡ slotLight w s
+  abbrev pub filled : ℕ → ℕ → Light
+  filled s k = cond (ltb k s) (slotLight w k) blankLight
+
+  abbrev pub firstLights : ℕ → List Light
+  firstLights s = filled s 0 ∷ filled s 1 ∷ filled s 2 ∷ filled s 3 ∷ filled s 4 ∷ filled s 5 ∷ filled s 6 ∷ filled s 7 ∷ []
+
+  pub lit-slot : (s : ℕ) → s < w 1 → lightOf (from w (slotAt s)) ≡ slotLight w s
+  unfolding slotLight
+  lit-slot s h = rw (lt-ltb s (w 1) h) refl
+
+  pub one-more : (s : ℕ) → s < 8 → set (firstLights s) s (slotLight w s) ≡ firstLights (s + 1)
+  one-more zero h = refl
+  one-more (suc zero) h = refl
+  one-more (suc (suc zero)) h = refl
+  one-more (suc (suc (suc zero))) h = refl
+  one-more (suc (suc (suc (suc zero)))) h = refl
+  one-more (suc (suc (suc (suc (suc zero))))) h = refl
+  one-more (suc (suc (suc (suc (suc (suc zero)))))) h = refl
+  one-more (suc (suc (suc (suc (suc (suc (suc zero))))))) h = refl
+  one-more (suc (suc (suc (suc (suc (suc (suc (suc s)))))))) h = absurd (omega arith)
+
+  beyond : (k : ℕ) → w 1 ≤ k → slotLight w k ≡ blankLight
+  unfolding slotLight
+  beyond k h = rw (le-ltb k (w 1) h) refl
+
+  kept : (s k : ℕ) → w 1 ≤ s → filled s k ≡ slotLight w k
+  kept s k h = go (ltb k s) refl
+    where
+      go : (b : Bool) → ltb k s ≡ b → cond b (slotLight w k) blankLight ≡ slotLight w k
+      go true e = refl
+      go false e = let p : s ≤ k = ltb-false k s e in sym (beyond k (omega arith))
+
+  pub all-lit : (s : ℕ) → w 1 ≤ s → firstLights s ≡ lightsOf w
   unfolding lightsOf
-  slot zero h = refl
-  slot (suc zero) h = refl
-  slot (suc (suc zero)) h = refl
-  slot (suc (suc (suc zero))) h = refl
-  slot (suc (suc (suc (suc zero)))) h = refl
-  slot (suc (suc (suc (suc (suc zero))))) h = refl
-  slot (suc (suc (suc (suc (suc (suc zero)))))) h = refl
-  slot (suc (suc (suc (suc (suc (suc (suc zero))))))) h = refl
-  slot (suc (suc (suc (suc (suc (suc (suc (suc s)))))))) h = absurd (omega arith)
+  all-lit s h = rw (kept s 0 h, kept s 1 h, kept s 2 h, kept s 3 h, kept s 4 h, kept s 5 h, kept s 6 h, kept s 7 h) refl
 
-  eight : length (lightsOf w) ≡ 8
+  pub all-eight : firstLights 8 ≡ lightsOf w
   unfolding lightsOf
-  eight = refl
-
-  pub lights-more : (ls : List Light) (s : ℕ) (l : Light) → length ls ≡ 8 → s < 8 → take s ls ≡ take s (lightsOf w) → l ≡ slotLight w s
-      → take (s + 1) (set ls s l) ≡ take (s + 1) (lightsOf w)
-  lights-more ls s l n h e p =
-      let k : s < length ls = omega arith in
-      let m : s < length (lightsOf w) = omega (arith, eight) in
-      rw (add-one, take-suc-set ls s l k, take-suc (lightsOf w) s noLight m, e, p, slot s h) refl
-
-  pub lights-all : (ls : List Light) → length ls ≡ 8 → take 8 ls ≡ take 8 (lightsOf w) → ls ≡ lightsOf w
-  lights-all ls n e = sym (take-all 8 ls (omega arith)) ∙ e ∙ take-all 8 (lightsOf w) (omega (arith, eight))
+  all-eight = refl

@@ -63,7 +63,7 @@ pub fn shade_block(
             &none,
             is_plain(form),
         );
-        shading::put(answer, channels);
+        answer_words::put(answer, channels);
         return BlockShading::Done;
     }
     if is_off(form) {
@@ -83,5 +83,5 @@ pub fn shade_fragment(lighting: Lighting, tables: &[u32], fragment: &[u32], answ
     let view = fragments::view_of(fragment, &none);
     let texels = fragments::texels_of(fragment, &none);
     let k = shading::shaded(lighting, tables, &none, quaternion, view, texels);
-    shading::put(answer, k);
+    answer_words::put(answer, k);
 }

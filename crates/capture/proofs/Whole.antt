@@ -1,36 +1,28 @@
--- What the parts of the call leave is what is printed: a fresh unit and copy print as the machine does, a refusal prints its line, and the text
--- that was put from the start is the output's front. Assumes nothing.
+-- What the parts of the call leave is what is printed: a refusal prints its line, and the text that was put from the start is the output's
+-- front. Assumes nothing.
 use Prim.Native.Nat.{ℕ, _+_, _≤_, _<_}
 use native.Mathlib.Omega.{arith}
 use mathlib.Core.Path.{_≡_, refl, sym, ap, _∙_}
 use mathlib.Core.List.{List, _++_}
 use mathlib.Core.Bool.{Bool, true, false, cond}
 use borrow.Author.Tests.{le-leb}
-use lib.ListN.{length, take, drop, replicate}
+use lib.ListN.{length, take, drop}
 use Rattle.refusals.specs.Numbers.{numberOf, outcomeNumber}
 use Rattle.refusals.specs.declared.Refusal.{Refusal}
 use Rattle.refusals.specs.declared.Refusal.the-variants.{ShortFile, WrongTables, HighRegister, LastGeneration, WrongSaved, WrongBlock, NotWellFormed, BadCapture, WrongFragment}
 use Rattle.refusals.specs.declared.Outcome.{Outcome}
 use Rattle.refusals.specs.declared.Outcome.the-variants.{Refused}
-use Rattle.unit.specs.declared.Cache.{Cache}
-use Rattle.unit.specs.Fresh.{freshCache}
-use Rattle.lists.specs.States.{fresh}
-use Rattle.lists.specs.Plain.{zeros}
-use Rattle.writing.specs.Writing.{Out, out, puts}
+use Rattle.sources.specs.Sources.{wordsOf}
+use Rattle.writing.specs.Writing.{out, puts}
 use Rattle.writing.specs.WritingLaws.{put-size, put-list, put-front}
 use Rattle.printing.specs.Text.{refusedLine}
-use Rattle.capture_contents.specs.Words.{wordsOf}
-use Rattle.capture_contents.specs.Contents.{countOf, triples, contents, sized, registersRight, shaped, wordsRefusal, refusal}
-use Rattle.capture_body.specs.Body.{lentState}
-use Rattle.capture_run.specs.Run.{copyPrints}
-use Rattle.capture.specs.declared.Answer.{Answer}
-use Rattle.capture.specs.Printed.{machinePrints, printedIf, printed}
-use Rattle.capture.specs.Answers.{largestOutput, numberBy, sizeOf, capturedBy, captures}
-use Rattle.capture.specs.PrintedLaws.{copy-prints-as-machine, printed-fits}
-
-pub fresh-prints : (w : List ℕ) (n : ℕ) (c : Cache) → length w ≤ 16384 → wordsRefusal w ≡ 0 → n ≡ countOf w → c ≡ freshCache → copyPrints w (triples w 0 n) (lentState (replicate 474 0) (replicate 12288 0) (replicate 328 0) (replicate 12288 0) (record { generation = 0; cache = c; age = 0 })) ≡ machinePrints w (contents w) zeros
-unfolding fresh
-fresh-prints w n c few e p q = rw (p, q) (copy-prints-as-machine w few e)
+use Rattle.capture_contents.specs.Contents.{contents, sized, registersRight, shaped}
+use Rattle.capture_check.specs.Refusal.{wordsRefusal, refusal}
+use Rattle.capture_calls.specs.Machine.{largestOutput}
+use Rattle.capture_answers.specs.declared.Answer.{Answer}
+use Rattle.capture_answers.specs.Answers.{numberBy, sizeOf, capturedBy}
+use Rattle.capture_printed.specs.Printed.{printedIf, printed, captures}
+use Rattle.capture_printed.specs.PrintedLaws.{printed-refused, printed-fits}
 
 -- 0, 3 or 8
 refusal-small : (w : List ℕ) → wordsRefusal w < 1000
@@ -42,17 +34,17 @@ refusal-small w = go (shaped w) (registersRight w (contents w))
     go true false = omega arith
     go false b = omega arith
 
-printed-refused : (k : Refusal) (w : List ℕ) → printedIf (numberOf k) w ≡ refusedLine (numberOf k)
-unfolding printedIf
-printed-refused ShortFile w = refl
-printed-refused WrongTables w = refl
-printed-refused HighRegister w = refl
-printed-refused LastGeneration w = refl
-printed-refused WrongSaved w = refl
-printed-refused WrongBlock w = refl
-printed-refused NotWellFormed w = refl
-printed-refused BadCapture w = refl
-printed-refused WrongFragment w = refl
+-- no refusal's number is 0
+number-refused : (k : Refusal) (w : List ℕ) → printedIf (numberOf k) w ≡ refusedLine (numberOf k)
+number-refused ShortFile w = printed-refused 0 w
+number-refused WrongTables w = printed-refused 1 w
+number-refused HighRegister w = printed-refused 2 w
+number-refused LastGeneration w = printed-refused 3 w
+number-refused WrongSaved w = printed-refused 4 w
+number-refused WrongBlock w = printed-refused 5 w
+number-refused NotWellFormed w = printed-refused 6 w
+number-refused BadCapture w = printed-refused 7 w
+number-refused WrongFragment w = printed-refused 8 w
 
 -- a refused outcome of the check
 module _ (w : List ℕ) (o : Outcome) (k : Refusal) (p : o ≡ Refused k) (e : outcomeNumber o ≡ wordsRefusal w) where
@@ -63,7 +55,7 @@ module _ (w : List ℕ) (o : Outcome) (k : Refusal) (p : o ≡ Refused k) (e : o
   refused-small n q = rw (q ∙ refused-number) (refusal-small w)
 
   pub refused-prints : (n : ℕ) → n ≡ numberOf k → refusedLine n ≡ printedIf (wordsRefusal w) w
-  refused-prints n q = rw (q, ← refused-number) (sym (printed-refused k w))
+  refused-prints n q = rw (q, ← refused-number) (sym (number-refused k w))
 
 -- an input by its size
 module _ (input : List ℕ) where

@@ -1,7 +1,7 @@
 -- What a body leaves and prints, by its kind: the calls of a kind 1 body are its writes, a kind 2 body hands over and alone prints, a kind 3
 -- body restores. Assumes nothing.
 use Prim.Native.Nat.{ℕ, _/_}
-use mathlib.Core.Path.{_≡_, refl, sym, ap, _∙_}
+use mathlib.Core.Path.{_≡_, refl, ap}
 use mathlib.Core.List.{List}
 use borrow.Author.Tests.{ne-eqb}
 use lib.ListN.{length}
@@ -13,8 +13,9 @@ use Rattle.lists.specs.Ours.{ours}
 use Rattle.writing.specs.Writing.{Out, puts}
 use Rattle.capture_lines.specs.Lines.{blockShades, fragmentLines, bodyLines}
 use Rattle.capture_body.specs.declared.Held.{Held}
-use Rattle.capture_body.specs.Calls.{pairCalls, restoreCall, bodyCalls}
-use Rattle.capture_body.specs.Body.{lentState, afterBody, afterLines}
+use Rattle.capture_calls.specs.Calls.{pairCalls, restoreCall, bodyCalls}
+use Rattle.capture_calls.specs.Run.{afterBody, afterLines}
+use Rattle.capture_body.specs.Body.{lentState}
 
 abbrev pub heldWith : ℕ → Cache → ℕ → Held
 heldWith g c a = record { generation = g; cache = c; age = a }

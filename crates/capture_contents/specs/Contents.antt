@@ -1,11 +1,10 @@
--- A capture's contents and bodies, and its refusals. "Contents first: n (0–16), then n triples kind, offset, length, in words; bodies follow
+-- A capture's contents and bodies, and the rules whose breach is refused. "Contents first: n (0–16), then n triples kind, offset, length, in words; bodies follow
 -- without gaps in that order to the end." Definitions only.
 use Prim.Native.Nat.{ℕ, zero, suc, _+_, _*_, _%_}
 use mathlib.Core.List.{List, [], _∷_}
 use mathlib.Core.Bool.{Bool, true, false, cond, _&&_}
 use lib.ListN.{length, getD, take, drop}
 use lib.Dec.{ltb, leb, eqb}
-use Rattle.capture_contents.specs.Words.{wordsOf}
 
 -- a triple of the contents
 pub record Body : Type 0 where
@@ -84,12 +83,3 @@ bodyRight kind ws = cond (eqb kind 1) (registersIn ws) true
 unfoldable pub registersRight : List ℕ → List Body → Bool
 registersRight w [] = true
 registersRight w (b ∷ bs) = bodyRight (b .kind) (wordsIn w b) && registersRight w bs
-
--- ---- both, of the words of an input whose size is right
-
-unfoldable pub wordsRefusal : List ℕ → ℕ
-wordsRefusal w = cond (shaped w) (cond (registersRight w (contents w)) 0 3) 8
-
--- of the input's bytes: 0, 8 or 3
-unfoldable pub refusal : List ℕ → ℕ
-refusal input = cond (sized (length input)) (wordsRefusal (wordsOf input)) 8

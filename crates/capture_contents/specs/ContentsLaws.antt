@@ -1,17 +1,15 @@
 -- What the check says of each body: where it stands, and that the rest follows it. The triples are taken one by one, as the loops take them.
 -- Assumes nothing.
-use Prim.Native.Nat.{ℕ, zero, suc, _+_, _-_, _*_, _/_, _≤_, _<_}
+use Prim.Native.Nat.{ℕ, zero, suc, _+_, _-_, _*_, _≤_, _<_}
 use native.Mathlib.Omega.{arith}
 use native.Mathlib.Numerals.{add-one}
-use mathlib.Core.Path.{_≡_, refl, sym, ap, _∙_}
+use mathlib.Core.Path.{_≡_, refl, sym, ap}
 use mathlib.Core.List.{List, [], _∷_}
-use mathlib.Core.Bool.{Bool, true, false, cond, _&&_}
+use mathlib.Core.Bool.{Bool, true, false, _&&_}
 use borrow.Author.Tests.{eqb-true, leb-true}
 use lib.ListN.{length, getD, take, drop}
 use lib.Dec.{eqb, leb, ltb}
-use Rattle.capture_contents.specs.Words.{wordsOf}
-use Rattle.capture_contents.specs.WordsLaws.{length-words}
-use Rattle.capture_contents.specs.Contents.{Body, body, triple, triples, countOf, contents, contentsEnd, wordsIn, sized, sizeRight, lies, gapless, shaped, registersRight, wordsRefusal, refusal}
+use Rattle.capture_contents.specs.Contents.{Body, body, triple, triples, countOf, contents, contentsEnd, wordsIn, sized, lies, gapless, shaped}
 
 both-left : (a b : Bool) → (a && b) ≡ true → a ≡ true
 both-left true b e = refl
@@ -56,10 +54,6 @@ unfolding lies
 lies-end b at end e =
     leb-true (at + b .size) end (both-left (leb (at + b .size) end) _ (both-right (eqb (b .offset) at) _ e))
 
-pub lies-size : (b : Body) (at end : ℕ) → lies b at end ≡ true → sizeRight (b .kind) (b .size) ≡ true
-unfolding lies
-lies-size b at end e = both-right (leb (at + b .size) end) _ (both-right (eqb (b .offset) at) _ e)
-
 pub gapless-head : (b : Body) (bs : List Body) (at end : ℕ) → gapless (b ∷ bs) at end ≡ true → lies b at end ≡ true
 unfolding gapless
 gapless-head b bs at end e = both-left (lies b at end) _ e
@@ -76,9 +70,6 @@ module _ (w : List ℕ) (i n at end s : ℕ) (h : i < n) (g : gapless (triples w
 
   pub body-end : at + s ≤ end
   body-end = rw q (lies-end (triple w i) at end there)
-
-  pub body-size : sizeRight (getD w (1 + 3 * i) 0) s ≡ true
-  body-size = rw q (lies-size (triple w i) at end there)
 
   pub body-rest : gapless (triples w (i + 1) (n - (i + 1))) (at + s) end ≡ true
   body-rest =
@@ -103,20 +94,3 @@ shaped-gapless w e =
 pub sized-most : (n : ℕ) → sized n ≡ true → n ≤ 65536
 unfolding sized
 sized-most n e = leb-true n 65536 (both-left (leb n 65536) _ (both-right (ltb 0 n) _ e))
-
-pub not-refused-shaped : (w : List ℕ) → wordsRefusal w ≡ 0 → shaped w ≡ true
-unfolding wordsRefusal
-not-refused-shaped w e = go (shaped w) e
-  where
-    go : (b : Bool) → _≡_ {A = ℕ} (cond b (cond (registersRight w (contents w)) 0 3) 8) 0 → b ≡ true
-    go true e = refl
-    go false e = absurd (omega arith)
-
-pub not-refused-registers : (w : List ℕ) → wordsRefusal w ≡ 0 → registersRight w (contents w) ≡ true
-unfolding wordsRefusal
-not-refused-registers w e = go (shaped w) (registersRight w (contents w)) e
-  where
-    go : (a b : Bool) → _≡_ {A = ℕ} (cond a (cond b 0 3) 8) 0 → b ≡ true
-    go true true e = refl
-    go true false e = absurd (omega arith)
-    go false b e = absurd (omega arith)

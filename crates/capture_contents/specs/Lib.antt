@@ -1,4 +1,2 @@
-pub mod Words
 pub mod Contents
-pub mod WordsLaws
 pub mod ContentsLaws

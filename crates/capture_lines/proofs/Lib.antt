@@ -1,2 +1,1 @@
-pub mod ReadOnce
 pub mod Numbers

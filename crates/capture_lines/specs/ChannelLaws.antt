@@ -1,13 +1,14 @@
 -- Shading answers eight numbers, each a byte's: every one of them is a quantised channel. Assumes nothing.
-use Prim.Native.Nat.{ℕ, zero, suc, _<_}
+use Prim.Native.Nat.{ℕ, zero, suc}
 use native.Mathlib.Omega.{arith}
 use mathlib.Core.Path.{_≡_, refl}
 use mathlib.Core.List.{List}
 use lib.ListN.{length}
 use Rattle.binary32.specs.QuantizeLaws.{quantized-byte}
 use Rattle.lighting.specs.declared.Lighting.{Lighting}
-use Rattle.shade_sums.specs.Sums.{finishOf}
-use Rattle.shading.specs.Shade.{finishedOf, shadeBy, shadeOf}
+use Rattle.shade_channels.specs.Channels.{finishOf}
+use Rattle.lighting_parts.specs.Parts.{finishedOf}
+use Rattle.shading.specs.Shade.{shadeBy, shadeOf}
 use Rattle.block_shading.specs.BlockShading.{eightOf}
 use Rattle.printing.specs.Text.{Bytes}
 

@@ -3,17 +3,16 @@
 use Prim.Native.Nat.{ℕ, zero, suc, _+_, _-_, _*_, _/_, _≤_, _<_}
 use native.Mathlib.Omega.{arith}
 use native.Mathlib.Nat.{sub-zero}
-use mathlib.Core.Path.{_≡_, refl, sym, ap, _∙_}
-use mathlib.Core.List.{List, [], _∷_, _++_}
+use mathlib.Core.Path.{_≡_, refl}
+use mathlib.Core.List.{List, [], _++_}
 use mathlib.Core.Bool.{Bool, true, false, cond}
-use lib.ListN.{length, take, drop, length-append, length-take, length-drop}
+use lib.ListN.{length, take, drop, length-append, length-drop}
 use lib.Seq.{drop-drop, length-take-le}
 use lib.Dec.{eqb}
 use Rattle.writing.specs.Writing.{Out, out, puts}
 use Rattle.writing.specs.WritingLaws.{puts-more}
-use Rattle.printing.specs.Text.{line, offLine, refusedLine}
 use Rattle.printing.specs.TextLaws.{line-most, refused-most}
-use Rattle.block_shading.specs.BlockShading.{Shaded, shaded}
+use Rattle.block_shading.specs.BlockShading.{Shaded}
 use Rattle.capture_lines.specs.Lines.{shownLine, fragmentLines, bodyLines}
 
 module _ (f g : List ℕ → Shaded) (alike : (q : List ℕ) → length q ≡ 23 → f q ≡ g q) where
@@ -23,11 +22,6 @@ module _ (f g : List ℕ → Shaded) (alike : (q : List ℕ) → length q ≡ 23
   lines-alike (suc n) ws h =
       let e : f (take 23 ws) ≡ g (take 23 ws) = alike (take 23 ws) (length-take-le 23 ws (omega arith)) in
       rw (e, lines-alike n (drop 23 ws) (rw length-drop (omega arith))) refl
-
-  pub body-alike : (kind : ℕ) (ws : List ℕ) → bodyLines f kind ws ≡ bodyLines g kind ws
-  unfolding bodyLines
-  body-alike kind ws =
-      ap (λ (l : List ℕ). cond (eqb kind 2) l []) (lines-alike (length ws / 23) ws (omega arith))
 
 -- a turn: fragment i of n is put, and the lines of the rest are still to come
 module _ (f : List ℕ → Shaded) (ws : List ℕ) where
@@ -55,12 +49,12 @@ module _ (f : List ℕ → Shaded) (ws : List ℕ) where
 -- a line of eight numbers, `off` and `refused N` have at most 32 bytes
 line-fits : (s : Shaded) → length (s .answer) ≡ 8 → length (shownLine s) ≤ 32
 unfolding shownLine
-line-fits s e = go (eqb (s .number) 0) (eqb (s .number) 100)
+line-fits s e = go (eqb (s .number) 0) (eqb (s .number) 100) refl refl
   where
-    go : (a b : Bool) → length (cond a (line (s .answer)) (cond b offLine (refusedLine (s .number)))) ≤ 32
-    go true b = omega (arith, line-most (s .answer))
-    go false true = omega arith
-    go false false = omega (arith, refused-most (s .number))
+    go : (a b : Bool) → eqb (s .number) 0 ≡ a → eqb (s .number) 100 ≡ b → length (shownLine s) ≤ 32
+    go true b p q = rw p (omega (arith, line-most (s .answer)))
+    go false true p q = rw (p, q) (omega arith)
+    go false false p q = rw (p, q) (omega (arith, refused-most (s .number)))
 
 module _ (f : List ℕ → Shaded) (eight : (q : List ℕ) → length (f q .answer) ≡ 8) where
   lines-fit : (n : ℕ) (ws : List ℕ) → length (fragmentLines f n ws) ≤ 32 * n

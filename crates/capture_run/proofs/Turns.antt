@@ -11,10 +11,9 @@ use Rattle.writing.specs.Writing.{Out, out, puts}
 use Rattle.writing.specs.WritingLaws.{puts-more}
 use Rattle.capture_contents.specs.Contents.{triple, triples, gapless, wordsIn}
 use Rattle.capture_contents.specs.ContentsLaws.{triples-more, body-words}
-use Rattle.capture_body.specs.Calls.{bodyCalls}
-use Rattle.capture_body.specs.Body.{afterBody, afterLines}
-use Rattle.capture_run.specs.Run.{callsOf, copyPrints}
-use Rattle.capture_run.specs.RunLaws.{run-append}
+use Rattle.capture_calls.specs.Calls.{bodyCalls}
+use Rattle.capture_calls.specs.Run.{afterBody, afterLines, callsOf, copyPrints}
+use Rattle.capture_calls.specs.RunLaws.{run-append}
 
 -- body i of n, whose words ws stand at `at`
 module _ (w : List ℕ) (i n at end size : ℕ) (h : i < n) (g : gapless (triples w i (n - i)) at end ≡ true) (q : size ≡ getD w (3 + 3 * i) 0) (ws : List ℕ) (p : ws ≡ take size (drop at w)) (s s′ : State) (e : s′ ≡ afterBody s (getD w (1 + 3 * i) 0) ws) where

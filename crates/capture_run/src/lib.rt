@@ -12,7 +12,7 @@ ghost use Rattle.lists.specs.Ours.{ours};
 ghost use Rattle.writing.specs.Writing.{out as outAt, puts};
 ghost use Rattle.capture_contents.specs.Contents.{triples, contentsEnd, gapless};
 ghost use Rattle.capture_body.specs.Body.{lentState};
-ghost use Rattle.capture_run.specs.Run.{callsOf, copyPrints};
+ghost use Rattle.capture_calls.specs.Run.{callsOf, copyPrints};
 
 // The bodies of a capture whose contents were checked, in order, `count` of them. What they print stands from the start of `out`.
 pub fn run_bodies(

@@ -1,8 +1,7 @@
--- What the laws of decoding speak of: two files that agree on the kept words, and the limits within which every decoded lighting lies. Statements only.
-use Prim.Native.Nat.{ℕ, _+_, _≤_, _<_}
+-- What the laws of decoding speak of: the limits within which every decoded lighting lies. Statements only.
+use Prim.Native.Nat.{ℕ, _≤_, _<_}
 use mathlib.Core.Path.{_≡_}
 use mathlib.Core.Bool.{true}
-use mathlib.Core.List.{List}
 use lib.ListN.{length, getD}
 use lib.Ieee.{Float}
 use Rattle.vectors.specs.Vectors.{Vector}
@@ -16,17 +15,8 @@ use Rattle.lighting.specs.declared.Bump.the-variants.{Flat, Normal, Tangent}
 use Rattle.lighting.specs.declared.OptionalShadow.{OptionalShadow}
 use Rattle.lighting.specs.declared.OptionalShadow.the-variants.{Unshadowed, Shadowed}
 use Rattle.lighting.specs.declared.Lighting.{Lighting}
-use Rattle.lights.specs.Registers.{regEnable, regLights, regDisable, regTableAbsolute, regLightSlots, registerOf}
 use Rattle.lights.specs.Claims.{LightFits}
-use Rattle.decoding.specs.Tables.{scaleOf}
-
--- the files agree on each of the 139 registers
-pub record SameKept (f g : List ℕ) : Type 0 where
-  pub enable : registerOf f regEnable ≡ registerOf g regEnable
-  pub blocks : (k : ℕ) → k < 133 → registerOf f (regLights + k) ≡ registerOf g (regLights + k)
-  pub disable : registerOf f regDisable ≡ registerOf g regDisable
-  pub tables : (k : ℕ) → k < 3 → registerOf f (regTableAbsolute + k) ≡ registerOf g (regTableAbsolute + k)
-  pub slots : registerOf f regLightSlots ≡ registerOf g regLightSlots
+use Rattle.lookups.specs.Tables.{scaleOf}
 
 -- a scale is that of some code
 pub record IsScale (x : Float) : Type 0 where

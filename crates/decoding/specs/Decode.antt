@@ -3,47 +3,17 @@ use Prim.Native.Nat.{ℕ, zero, suc}
 use mathlib.Core.Bool.{Bool, true, false, not, cond, _&&_}
 use mathlib.Core.List.{List}
 use lib.ListN.{length}
-use Rattle.fields.specs.Colour.{colourOf}
 use Rattle.refusals.specs.Numbers.{outcomeNumber}
 use Rattle.refusals.specs.Lengths.{fileRefusal}
 use Rattle.lighting.specs.Blank.{blankLighting}
-use Rattle.lighting.specs.declared.Lighting.{Lighting}
 use Rattle.lighting.specs.declared.OptionalLighting.{OptionalLighting}
-use Rattle.lights.specs.Registers.{regEnable, regGlobalAmbient, regConfig0, regDisable, registerOf, flagOf}
-use Rattle.lights.specs.Supported.{configOf}
-use Rattle.lights.specs.Lights.{countOf, lightsOf}
+use Rattle.registers.specs.Registers.{regEnable, regDisable, registerOf, flagOf}
+use Rattle.register_lighting.specs.Lighting.{lightingOf}
 use Rattle.decoding.specs.declared.LightingRead.{LightingRead}
-use Rattle.decoding.specs.Tables.{lookupsOf}
-use Rattle.decoding.specs.Settings.{bumpOf, shadowOf}
-use Rattle.decoding.specs.Needs.{needsHalf, needsView}
 
 -- off when bit 0 of 8F is clear or bit 0 of 1C6 is set
 unfoldable pub lightingOn : List ℕ → Bool
 lightingOn f = flagOf (registerOf f regEnable) 0 && not (flagOf (registerOf f regDisable) 0)
-
--- the lighting that the registers set up, whether or not it is on
-unfoldable pub lightingOf : List ℕ → Lighting
-lightingOf f =
-    record {
-      lights = lightsOf f;
-      «light_count» = countOf f;
-      «global_ambient» = colourOf (registerOf f regGlobalAmbient);
-      config = configOf f;
-      distribution0 = lookupsOf f .distribution0;
-      distribution1 = lookupsOf f .distribution1;
-      fresnel = lookupsOf f .fresnel;
-      «reflect_red» = lookupsOf f .«reflect_red»;
-      «reflect_green» = lookupsOf f .«reflect_green»;
-      «reflect_blue» = lookupsOf f .«reflect_blue»;
-      spotlight = lookupsOf f .spotlight;
-      «fresnel_primary» = flagOf (registerOf f regConfig0) 2;
-      «fresnel_secondary» = flagOf (registerOf f regConfig0) 3;
-      «clamp_highlights» = flagOf (registerOf f regConfig0) 27;
-      «needs_half» = needsHalf f;
-      «needs_view» = needsView f;
-      bump = bumpOf (registerOf f regConfig0);
-      shadow = shadowOf (registerOf f regConfig0);
-    }
 
 -- off: the lighting beside the flag is the blank one
 unfoldable pub off : OptionalLighting

@@ -1,9 +1,4 @@
-pub mod Tables
-pub mod Settings
-pub mod Needs
 pub mod Decode
-pub mod RegistersRead
 pub mod Claims
-pub mod KeptLaws
 pub mod DecodeLaws
 pub mod LimitLaws

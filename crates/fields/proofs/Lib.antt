@@ -1,3 +1,2 @@
--- Facts that the functions' proofs cite, and the paper's cases.
-pub mod Casts
+-- The paper's cases.
 mod Examples

@@ -1,7 +1,6 @@
 -- Cases of the lights: which light a slot holds, that a light's distance goes by its number and not by its slot, and the order of the fields of position and spot. Each is closed, so both sides compute to the same value. Assumes nothing.
 use Prim.Native.Nat.{ℕ}
 use mathlib.Core.Path.{_≡_, refl}
-use mathlib.Core.Bool.{true, false}
 use mathlib.Core.List.{List, [], _∷_}
 use lib.ListN.{set, replicate}
 use lib.IntN.{pos, negsuc}
@@ -12,8 +11,9 @@ use Rattle.lighting.specs.Blank.{zeroFloat, blankLight}
 use Rattle.lighting.specs.declared.LightNumber.{LightNumber}
 use Rattle.lighting.specs.declared.Slot.{Slot}
 use Rattle.lighting.specs.declared.Distance.the-variants.{Without, Scaled}
-use Rattle.lights.specs.Supported.{supportedBy, tableDistribution1, tableReflectGreen}
-use Rattle.lights.specs.Lights.{countOf, numberOf, lightRegister, positionOf, spotOf, distanceOf, slotLight}
+use Rattle.slots.specs.Slots.{countOf, numberOf}
+use Rattle.light_fields.specs.LightFields.{lightRegister, positionOf, spotOf}
+use Rattle.lights.specs.Lights.{distanceOf, slotLight}
 
 -- 1D9 30: slot 1 holds light 3
 abbrev swapped : List ℕ
@@ -57,11 +57,3 @@ one-on = refl
 slot-blank : slotLight swapped slot1 ≡ blankLight
 unfolding slotLight countOf
 slot-blank = refl
-
-distribution1-in-4 : supportedBy 4 tableDistribution1 ≡ true
-unfolding supportedBy
-distribution1-in-4 = refl
-
-green-in-6 : supportedBy 6 tableReflectGreen ≡ false
-unfolding supportedBy
-green-in-6 = refl

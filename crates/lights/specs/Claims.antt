@@ -8,7 +8,7 @@ use Rattle.vectors.specs.Vectors.{Vector}
 use Rattle.lighting.specs.declared.Distance.{Distance}
 use Rattle.lighting.specs.declared.Distance.the-variants.{Without, Scaled}
 use Rattle.lighting.specs.declared.Light.{Light}
-use Rattle.lights.specs.Registers.{regLights, regLightSlots, registerOf}
+use Rattle.registers.specs.Registers.{regLights, regLightSlots, registerOf}
 
 abbrev pub DistanceFits : Distance → Type 0
 DistanceFits Without = Unit {0}

@@ -1,5 +1,3 @@
-pub mod Registers
-pub mod Supported
 pub mod Lights
 pub mod Claims
 pub mod LightLaws

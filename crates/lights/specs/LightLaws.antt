@@ -22,10 +22,12 @@ use Rattle.lighting.specs.declared.Slot.{Slot}
 use Rattle.lighting.specs.declared.LightNumber.{LightNumber}
 use Rattle.lighting.specs.declared.Distance.the-variants.{Without, Scaled}
 use Rattle.lighting.specs.declared.Light.{Light}
-use Rattle.lights.specs.Registers.{regConfig1, registerOf, flagOf}
-use Rattle.lights.specs.Supported.{configOf}
+use Rattle.registers.specs.Registers.{regConfig1, registerOf, flagOf}
+use Rattle.configuration.specs.Supported.{configOf}
 use Rattle.lights.specs.Claims.{DistanceFits, LightFits}
-use Rattle.lights.specs.Lights.{countOf, numberOf, lightRegister, lightColour, positionOf, spotOf, distanceOf, lightOf, slotLight, lightsOf}
+use Rattle.slots.specs.Slots.{countOf, numberOf}
+use Rattle.light_fields.specs.LightFields.{lightRegister, lightColour, positionOf, spotOf}
+use Rattle.lights.specs.Lights.{distanceOf, lightOf, slotLight, lightsOf}
 
 -- ---- counts and numbers
 

@@ -1,11 +1,8 @@
--- The lights: how many are on, which light each slot holds, and a light from its block of registers. Definitions only.
-use Prim.Native.Nat.{ℕ, _+_, _*_, _/_, _^_}
+-- The lights: a light from its block of registers, and the light in each slot. Definitions only.
+use Prim.Native.Nat.{ℕ, _+_}
 use mathlib.Core.Bool.{Bool, not, cond, _&&_}
 use mathlib.Core.List.{List, [], _∷_}
 use lib.Dec.{ltb}
-use lib.Ieee.{Float}
-use Rattle.fields.specs.Colour.{colourOf}
-use Rattle.fields.specs.Fixed.{fixedOf}
 use Rattle.fields.specs.ShortFloat.{shortFloat}
 use Rattle.vectors.specs.Vectors.{normalizedOf}
 use Rattle.lighting.specs.Blank.{blankLight}
@@ -14,40 +11,10 @@ use Rattle.lighting.specs.declared.LightNumber.{LightNumber}
 use Rattle.lighting.specs.declared.Distance.{Distance}
 use Rattle.lighting.specs.declared.Distance.the-variants.{Without, Scaled}
 use Rattle.lighting.specs.declared.Light.{Light}
-use Rattle.lights.specs.Registers.{regLights, regLightCount, regLightSlots, regConfig1, registerOf, bitsOf, flagOf}
-use Rattle.lights.specs.Supported.{tableSpotlight, configOf, supportedBy}
-
--- how many lights are on
-unfoldable pub countOf : List ℕ → ℕ
-countOf f = bitsOf (registerOf f regLightCount) 0 3 + 1
-
--- which light a slot holds: bits 4s to 4s + 2 of 1D9. A slot goes in and a light number comes out, and no definition takes one for the other.
-unfoldable pub numberOf : List ℕ → Slot → LightNumber
-numberOf f slot = record { 0 = bitsOf (registerOf f regLightSlots) (slot .0 * 4) 3 }
-
--- the word at an offset in a light's block
-unfoldable pub lightRegister : List ℕ → LightNumber → ℕ → ℕ
-lightRegister f n offset = registerOf f (regLights + n .0 * 0x10 + offset)
-
--- the colour at an offset in a light's block
-unfoldable pub lightColour : List ℕ → LightNumber → ℕ → List Float
-lightColour f n offset = colourOf (lightRegister f n offset)
-
--- three halves: the low and the high one of offset 4, and the low one of 5
-unfoldable pub positionOf : List ℕ → LightNumber → List Float
-positionOf f n =
-    shortFloat 10 5 (lightRegister f n 4)
-    ∷ shortFloat 10 5 (lightRegister f n 4 / 2 ^ 16)
-    ∷ shortFloat 10 5 (lightRegister f n 5)
-    ∷ []
-
--- three 13-bit fields: 6 from bit 0, 6 from bit 16, 7 from bit 0
-unfoldable pub spotOf : List ℕ → LightNumber → List Float
-spotOf f n =
-    fixedOf (lightRegister f n 6)
-    ∷ fixedOf (lightRegister f n 6 / 2 ^ 16)
-    ∷ fixedOf (lightRegister f n 7)
-    ∷ []
+use Rattle.registers.specs.Registers.{regConfig1, registerOf, flagOf}
+use Rattle.configuration.specs.Supported.{tableSpotlight, configOf, supportedBy}
+use Rattle.slots.specs.Slots.{countOf, numberOf}
+use Rattle.light_fields.specs.LightFields.{lightRegister, lightColour, positionOf, spotOf}
 
 -- none where bit 24 + n of 1C4 is set, n being the light's number; else the bias and the scale, in the low 20 bits of offsets A and B
 unfoldable pub distanceOf : List ℕ → LightNumber → Distance

@@ -5,9 +5,11 @@ use mathlib.Core.List.{List}
 use native.Mathlib.Omega.{arith}
 use Rattle.lighting.specs.declared.Slot.{Slot}
 use Rattle.lighting.specs.declared.LightNumber.{LightNumber}
-use Rattle.lights.specs.Registers.{regLights}
-use Rattle.lights.specs.Supported.{configOf}
-use Rattle.lights.specs.Lights.{countOf, numberOf, lightRegister, lightColour, positionOf, spotOf, distanceOf, spotlitOf, lightOf, slotLight, lightsOf}
+use Rattle.registers.specs.Registers.{regLights}
+use Rattle.configuration.specs.Supported.{configOf}
+use Rattle.slots.specs.Slots.{countOf, numberOf}
+use Rattle.light_fields.specs.LightFields.{lightRegister, lightColour, positionOf, spotOf}
+use Rattle.lights.specs.Lights.{distanceOf, spotlitOf, lightOf, slotLight, lightsOf}
 use Rattle.lights.specs.Claims.{SameLights}
 use Rattle.lights.specs.LightLaws.{number-lt}
 

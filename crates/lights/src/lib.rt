@@ -1,152 +1,26 @@
-// The words of a register file, and the lights that it sets up.
-use fields::color;
-use fields::fixed;
-use fields::float20;
-use fields::half;
+// The lights that a register file sets up, each in its slot.
+use configuration::SPOTLIGHT;
+use configuration::configuration;
+use configuration::supported;
+use light_fields::light_color;
+use light_fields::light_register;
+use light_fields::position;
+use light_fields::spot;
 use lighting::Distance;
 use lighting::Light;
 use lighting::LightNumber;
 use lighting::Slot;
 use lighting::blank_light;
+use registers::REG_CONFIG1;
+use registers::flag;
+use registers::register;
+use short_floats::float20;
+use slots::light_count;
+use slots::light_number;
 use vectors::normalized;
 ghost use mathlib.Core.Path.{_≡_};
 ghost use Prim.Native.Nat.{_<_};
-ghost use Rattle.lights.specs.Registers.{registerOf, bitsOf, flagOf};
-ghost use Rattle.lights.specs.Supported.{configOf, supportedBy};
-ghost use Rattle.lights.specs.Lights.{countOf, numberOf, lightRegister, lightColour, positionOf, spotOf, distanceOf, spotlitOf, lightOf, slotLight, lightsOf};
-
-// The registers that hold the lights and how they are read.
-const REG_LIGHTS: usize = 0x140;
-
-const REG_LIGHT_COUNT: usize = 0x1C2;
-
-pub const REG_CONFIG0: usize = 0x1C3;
-
-pub const REG_CONFIG1: usize = 0x1C4;
-
-const REG_LIGHT_SLOTS: usize = 0x1D9;
-
-// The tables, by number.
-pub const DISTRIBUTION0: u32 = 0;
-
-pub const DISTRIBUTION1: u32 = 1;
-
-pub const FRESNEL: u32 = 3;
-
-pub const REFLECT_BLUE: u32 = 4;
-
-pub const REFLECT_GREEN: u32 = 5;
-
-pub const REFLECT_RED: u32 = 6;
-
-const SPOTLIGHT: u32 = 8;
-
-// The word of a register; 0 where the file is too short to have it.
-pub fn register(file: &[u32], at: usize) -> u32
-    ensures { λ r. ⌜ r ≡ registerOf (now (file .entry)) at ⌝ }
-{
-    if at < file.len() { file[at] } else { 0 }
-}
-
-// `width` bits of a word, from bit `from` on.
-pub fn bits(word: u32, from: u32, width: u32) -> u32
-    ensures { λ r. ⌜ r ≡ bitsOf word from width ⌝ }
-{
-    if 32 <= from {
-        return 0;
-    }
-    let high = word >> from;
-    if 32 <= width {
-        return high;
-    }
-    high % (1 << width)
-}
-
-// Whether bit `at` of a word is set.
-pub fn flag(word: u32, at: u32) -> bool
-    ensures { λ r. ⌜ r ≡ flagOf word at ⌝ }
-{
-    bits(word, at, 1) == 1
-}
-
-pub fn configuration(file: &[u32]) -> u32
-    ensures { λ r. ⌜ r ≡ configOf (now (file .entry)) ⌝ }
-{
-    bits(register(file, REG_CONFIG0), 4, 4)
-}
-
-// Which tables a lighting configuration has room for.
-pub fn supported(config: u32, table: u32) -> bool
-    ensures { λ r. ⌜ r ≡ supportedBy config table ⌝ }
-{
-    match table {
-        DISTRIBUTION0 => config != 1,
-        DISTRIBUTION1 => match config {
-            0..=1 | 5 => false,
-            _ => true,
-        },
-        SPOTLIGHT => match config {
-            2..=3 => false,
-            _ => true,
-        },
-        FRESNEL => match config {
-            0 | 2 | 4 => false,
-            _ => true,
-        },
-        REFLECT_RED => config != 3,
-        _ => match config {
-            4..=5 | 8 => true,
-            _ => false,
-        },
-    }
-}
-
-pub fn light_count(file: &[u32]) -> usize
-    ensures { λ r. ⌜ r ≡ countOf (now (file .entry)) ⌝ }
-{
-    bits(register(file, REG_LIGHT_COUNT), 0, 3) as usize + 1
-}
-
-// Which light a slot holds.
-fn light_number(file: &[u32], slot: Slot) -> LightNumber
-    requires { ⌜ slot .0 < 8 ⌝ }
-    ensures { λ r. ⌜ r ≡ numberOf (now (file .entry)) slot ⌝ }
-{
-    LightNumber(bits(register(file, REG_LIGHT_SLOTS), slot.0 as u32 * 4, 3) as usize)
-}
-
-// The word at an offset in a light's block.
-fn light_register(file: &[u32], number: LightNumber, offset: usize) -> u32
-    requires { ⌜ (number .0 < 8) × (offset < 16) ⌝ }
-    ensures { λ r. ⌜ r ≡ lightRegister (now (file .entry)) number offset ⌝ }
-{
-    register(file, REG_LIGHTS + number.0 * 0x10 + offset)
-}
-
-fn light_color(file: &[u32], number: LightNumber, offset: usize) -> [f32; 3]
-    requires { ⌜ (number .0 < 8) × (offset < 16) ⌝ }
-    ensures { λ r. ⌜ r ≡ lightColour (now (file .entry)) number offset ⌝ }
-{
-    color(light_register(file, number, offset))
-}
-
-fn position(file: &[u32], number: LightNumber) -> [f32; 3]
-    requires { ⌜ number .0 < 8 ⌝ }
-    ensures { λ r. ⌜ r ≡ positionOf (now (file .entry)) number ⌝ }
-{
-    let first = light_register(file, number, 4);
-    let second = light_register(file, number, 5);
-    [half(first), half(first >> 16), half(second)]
-}
-
-fn spot(file: &[u32], number: LightNumber) -> [f32; 3]
-    requires { ⌜ number .0 < 8 ⌝ }
-    ensures { λ r. ⌜ r ≡ spotOf (now (file .entry)) number ⌝ }
-{
-    let first = light_register(file, number, 6);
-    let second = light_register(file, number, 7);
-    [fixed(first), fixed(first >> 16), fixed(second)]
-}
+ghost use Rattle.lights.specs.Lights.{distanceOf, spotlitOf, lightOf, slotLight, lightsOf};
 
 // The bit that takes the distance away is that of the light's number, whatever its slot.
 fn distance(file: &[u32], number: LightNumber) -> Distance

@@ -17,19 +17,31 @@ use Rattle.fields.specs.Fixed.{signed13, fixedOf}
 use Rattle.fields.specs.ShortFloat.{shortExponent, shortSign, shortWord, shortFloat}
 use Rattle.vectors.specs.Vectors.{plusOf, minusOf, timesOf, overOf, dotOf, crossOf, normalizedOf, axisOf, turnOf, plusTwice, rotateOf}
 use Rattle.lighting.specs.Blank.{blankLight}
-use Rattle.lights.specs.Supported.{configOf, supportedBy}
-use Rattle.lights.specs.Lights.{countOf, numberOf, lightRegister, lightColour, positionOf, spotOf as spotRead, distanceOf as distanceRead, spotlitOf, lightOf, slotLight, lightsOf}
-use Rattle.decoding.specs.Tables.{scaleOf, lookupOf as lookupRead, tableOf, lookupsOf as lookupsRead}
-use Rattle.decoding.specs.Settings.{bumpOf, shadowOf as shadowRead}
-use Rattle.decoding.specs.Needs.{litLights, inputHalf, inputView, lookupHalf, lookupView, halfInput, viewInput, needsHalf, needsView}
-use Rattle.decoding.specs.Decode.{lightingOn, lightingOf, decoded}
+use Rattle.configuration.specs.Supported.{configOf, supportedBy}
+use Rattle.slots.specs.Slots.{countOf, numberOf}
+use Rattle.light_fields.specs.LightFields.{lightRegister, lightColour, positionOf, spotOf as spotRead}
+use Rattle.lights.specs.Lights.{distanceOf as distanceRead, spotlitOf, lightOf, slotLight, lightsOf}
+use Rattle.lookups.specs.Tables.{scaleOf, lookupOf as lookupRead, tableOf, lookupsOf as lookupsRead}
+use Rattle.settings.specs.Settings.{bumpOf, shadowOf as shadowRead}
+use Rattle.needs.specs.Needs.{litLights, inputHalf, inputView, lookupHalf, lookupView, halfInput, viewInput, needsHalf, needsView}
+use Rattle.register_lighting.specs.Lighting.{lightingOf}
+use Rattle.decoding.specs.Decode.{lightingOn, decoded}
 use Rattle.block.specs.Answers.{bumpUnit, shadowUnit, packedReading}
-use Rattle.shade_surface.specs.Surface.{lengthOf, quaternionOver, unitQuaternion, shadowOf, surfaceNormal, surfaceTangent, tangentOf, unitIf, frameOf}
-use Rattle.shade_light.specs.Toward.{lightVector, halfOf, towardOf, facingOf, highlightsOf, factorBy, factorOf}
-use Rattle.shade_lookups.specs.Lookups.{present, valueIf, spotOf, fresnelOf, distanceBy, distanceOf, valuesBy, valuesOf}
-use Rattle.shade_sums.specs.Sums.{primaryOf, secondaryOf, alphaOf, diffuseOf, timesIf, specular0Of, reflectedOf, specular1Of, specularBy, specularOf, shadowFor, addedOf, summedOf, withLightBy, withLight, shadowedAlpha, finishOf}
+use Rattle.shade_surface.specs.Surface.{lengthOf, quaternionOver, unitQuaternion, tangentOf, unitIf, frameOf}
+use Rattle.shade_bump.specs.Bump.{surfaceNormal, surfaceTangent}
+use Rattle.shade_shadow.specs.Shadow.{shadowOf}
+use Rattle.shade_light.specs.Toward.{lightVector, halfOf, towardOf}
+use Rattle.shade_facing.specs.Facing.{facingOf, highlightsOf, factorBy, factorOf}
+use Rattle.shade_values.specs.Values.{present}
+use Rattle.shade_step.specs.Lookups.{valueIf, spotOf, fresnelOf, distanceBy, distanceOf, valuesBy, valuesOf}
+use Rattle.shade_shadow.specs.Shadow.{primaryOf, secondaryOf, alphaOf}
+use Rattle.shade_terms.specs.Terms.{diffuseOf, timesIf, specular0Of, reflectedOf, specular1Of, specularBy, specularOf}
+use Rattle.shade_sums.specs.Sums.{shadowFor, addedOf, summedOf, withLightBy, withLight}
+use Rattle.shade_channels.specs.Channels.{shadowedAlpha, finishOf}
 use Rattle.shade_step.specs.Step.{stepOf}
-use Rattle.shading.specs.Shade.{lookupsOf, settingsOf, sumsBy, sumsOf, lightingFrame, lightingShadow, finishedOf, shadeBy, shadeOf}
+use Rattle.lighting_parts.specs.Parts.{lookupsOf, settingsOf, lightingFrame, lightingShadow, finishedOf}
+use Rattle.light_sums.specs.Sums.{sumsBy}
+use Rattle.shading.specs.Shade.{sumsOf, shadeBy, shadeOf}
 use Rattle.fragments.specs.Fragment.{floatAt, fourAt, quaternionOf, viewOf, texelsOf}
 use Rattle.block_shading.specs.BlockShading.{Shaded, eightOf, blockShading}
 use Rattle.refusals.specs.Lengths.{fileRefusal, tablesRefusal, registerRefusal, blockRefusal}

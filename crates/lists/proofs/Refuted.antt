@@ -7,7 +7,8 @@ use mathlib.Core.List.{List, [], _∷_}
 use mathlib.Core.Bool.{Bool, true, false, cond, not, _&&_}
 use lib.ListN.{length, set, replicate}
 use lib.Dec.{eqb, lit<, lit≤}
-use Rattle.decoding.specs.Decode.{lightingOn, lightingOf, off, decoded}
+use Rattle.register_lighting.specs.Lighting.{lightingOf}
+use Rattle.decoding.specs.Decode.{lightingOn, off, decoded}
 use Rattle.block.specs.Answers.{packedReading}
 use Rattle.refusals.specs.Lengths.{fileRefusal, tablesRefusal, savedRefusal, blockRefusal}
 use Rattle.tables.specs.Upload.{isData}

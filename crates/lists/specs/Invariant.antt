@@ -6,7 +6,7 @@ use mathlib.Core.Logic.{_⊎_}
 use mathlib.Core.Bool.{true}
 use lib.ListN.{length, take}
 use Rattle.unit.specs.declared.Cache.{Cache}
-use Rattle.decoding.specs.RegistersRead.{keptWords}
+use Rattle.registers_read.specs.RegistersRead.{keptWords}
 use Rattle.decoding.specs.Decode.{decoded}
 use Rattle.block.specs.Answers.{packedReading}
 use Rattle.lists.specs.States.{UnitState, CopyState, State}

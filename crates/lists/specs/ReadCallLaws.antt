@@ -12,12 +12,12 @@ use lib.Dec.{leb, eqb, lit<, lit≤, eqb·suc-zero}
 use borrow.Author.Tests.{leb-true}
 use Rattle.refusals.specs.Lengths.{fileRefusal}
 use Rattle.tables.specs.RefusalLaws.{passed, passed-test}
-use Rattle.decoding.specs.RegistersRead.{keptWords}
+use Rattle.registers_read.specs.RegistersRead.{keptWords}
 use Rattle.decoding.specs.Decode.{decoded}
 use Rattle.decoding.specs.DecodeLaws.{decoded-same}
 use Rattle.unit.specs.declared.Cache.{Cache}
-use Rattle.unit.specs.Comparing.{sameWords}
-use Rattle.unit.specs.ComparingLaws.{same-equal}
+use Rattle.registers_read.specs.Comparing.{sameWords}
+use Rattle.registers_read.specs.ComparingLaws.{same-equal}
 use Rattle.unit.specs.CachedRead.{current, readAnew, refreshed, cachedReadIf}
 use Rattle.lists.specs.Ours.{ours}
 use Rattle.lists.specs.States.{State, unitState, state}

@@ -1,23 +1,9 @@
 -- What a capture prints, as bytes: "one line, primary then secondary k in decimal, red green blue alpha each, single spaces; or `off`", and
 -- "`refused N`". Definitions only.
-use Prim.Native.Nat.{ℕ, _+_, _/_, _%_, _<_}
+use Prim.Native.Nat.{ℕ, _<_}
 use mathlib.Core.List.{List, [], _∷_, _++_}
-use mathlib.Core.Bool.{cond}
 use lib.ListN.{getD}
-use lib.Dec.{ltb}
-
--- the byte of a digit: `0` is 48
-abbrev pub digitByte : ℕ → ℕ
-digitByte n = 48 + n
-
--- a number below 1000 in decimal, without leading zeros
-unfoldable pub decimal : ℕ → List ℕ
-decimal k =
-    cond (ltb k 10)
-    (digitByte k ∷ [])
-    (cond (ltb k 100)
-    (digitByte (k / 10) ∷ digitByte (k % 10) ∷ [])
-    (digitByte (k / 100) ∷ digitByte (k / 10 % 10) ∷ digitByte (k % 10) ∷ []))
+use Rattle.decimals.specs.Decimal.{decimal}
 
 -- what follows a number, where `rest` are the numbers still to come: a space, and a newline after the last
 unfoldable pub gap : List ℕ → ℕ

@@ -1,26 +1,19 @@
 -- A line of eight numbers has at most 32 bytes, three digits and a gap each; the other two lines are shorter. And a line is its first number,
 -- the gap and the line of the rest. Assumes nothing.
-use Prim.Native.Nat.{ℕ, zero, suc, _+_, _*_, _/_, _%_, _≤_, _<_}
+use Prim.Native.Nat.{ℕ, _+_, _*_, _≤_, _<_}
 use native.Mathlib.Omega.{arith}
 use mathlib.Core.Path.{_≡_, refl, sym, ap, _∙_}
 use mathlib.Core.List.{List, [], _∷_, _++_}
 use mathlib.Core.Bool.{Bool, true, false, cond}
 use lib.ListN.{length, getD, drop, set, length-append}
-use lib.Dec.{ltb, eqb}
+use lib.Dec.{eqb}
 use borrow.Author.Tests.{eqb-true, eqb-false}
 use Rattle.writing.specs.Writing.{Out, out, puts}
 use Rattle.writing.specs.WritingLaws.{puts-more}
 use Rattle.writing.specs.PieceLaws.{drop-one, drop-none}
-use Rattle.printing.specs.Text.{digitByte, decimal, gap, line, refusedLine}
-
-pub decimal-most : (k : ℕ) → length (decimal k) ≤ 3
-unfolding decimal
-decimal-most k = go (ltb k 10) (ltb k 100)
-  where
-    go : (a b : Bool) → length (cond a (digitByte k ∷ []) (cond b (digitByte (k / 10) ∷ digitByte (k % 10) ∷ []) (digitByte (k / 100) ∷ digitByte (k / 10 % 10) ∷ digitByte (k % 10) ∷ []))) ≤ 3
-    go true b = omega arith
-    go false true = omega arith
-    go false false = omega arith
+use Rattle.decimals.specs.Decimal.{decimal}
+use Rattle.decimals.specs.DecimalLaws.{decimal-most}
+use Rattle.printing.specs.Text.{gap, line, refusedLine}
 
 pub line-most : (l : List ℕ) → length (line l) ≤ 4 * length l
 unfolding line

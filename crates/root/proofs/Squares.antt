@@ -47,7 +47,7 @@ pub scaled-below : (W c u : ℕ) → 0 < u → c * c < 4 * W → c * u * (c * u)
 scaled-below W c u p h = lt-of-le-of-lt (le-of-eq (mul-mul-mul-comm c u c u)) (lt-of-lt-of-le (mul-lt-mul-of-pos-right h (mul-pos p p)) (le-of-eq (mul-assoc 4 W (u * u))))
 
 -- one step down from a number that is too large
-pub step-down : (w r : ℕ) → 0 < w → w + r ≤ r * r → (0 < r) × (w ≤ (r - 1) * (r - 1) + (r - 1))
+pub step-down : (w r : ℕ) → 0 < w → w + r ≤ r * r → w ≤ (r - 1) * (r - 1) + (r - 1)
 step-down w zero p h = absurd (no w p h)
   where
     no : (w : ℕ) → 0 < w → w + 0 ≤ 0 → ⊥
@@ -55,7 +55,11 @@ step-down w zero p h = absurd (no w p h)
 step-down w (suc r) p h =
     let e = sq-suc r in
     let one : suc r - 1 ≡ r = omega arith in
-    (omega arith, subst (λ (z : ℕ). w ≤ z * z + z) (sym one) (omega arith))
+    subst (λ (z : ℕ). w ≤ z * z + z) (sym one) (omega arith)
+
+pub square-pos : (r : ℕ) → 0 < r * r → 0 < r
+square-pos zero h = h
+square-pos (suc r) h = omega arith
 
 -- a number that is too small has at most 24 digits
 pub small-root : (w r : ℕ) → w < 281474976710656 → r * r + r < w → r < 16777216

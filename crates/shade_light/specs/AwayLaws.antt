@@ -1,19 +1,19 @@
 -- −view − position is the opposite of position + view in every bit but a zero's sign, since rounding takes no notice of the sign, and a square has lost it.
 -- So the way toward a light and how far the light is away share one root. Assumes nothing.
-use Prim.Native.Nat.{ℕ, zero, suc, _+_, _-_, _*_, _^_, compare}
+use Prim.Native.Nat.{ℕ, zero, suc, _+_, _-_, _*_, _^_}
 use native.Mathlib.Omega.{arith}
 use mathlib.Core.Path.{_≡_, refl, sym, ap, _∙_}
 use mathlib.Core.Bool.{Bool, true, false, not, _&&_, Bool·beq, cond, _||_}
 use mathlib.Core.List.{List}
 use lib.Dec.{ltb}
-use lib.Ieee.{Float, nan, inf, fin, Format, binary32, prec, emax, low, up, down, unlike, nearest, size, odd, units, round, neg, sum, add, sub, mul}
-use borrow.Author.Tests.{ltb-true, ltb-false, le-ltb}
+use lib.Ieee.{Float, nan, inf, fin, Format, binary32, prec, emax, low, up, down, unlike, odd, units, round, neg, sum, add, sub, mul}
+use borrow.Author.Tests.{ltb-true, ltb-false}
 use Rattle.root.specs.Root.{rootOf}
-use Rattle.vectors.specs.Vectors.{at, plusOf, overOf, dotOf, normalizedOf}
+use Rattle.vectors.specs.Vectors.{at, plusOf, dotOf}
 use Rattle.block.specs.Words.{isScaled}
 use Rattle.lighting.specs.declared.Light.{Light}
-use Rattle.lighting.specs.declared.Distance.the-variants.{Without, Scaled}
-use Rattle.shade_light.specs.Toward.{lightVector, offsetOf, awayOf}
+use Rattle.lighting.specs.declared.Distance.the-variants.{Scaled}
+use Rattle.shade_light.specs.Toward.{offsetOf, awayOf}
 use Rattle.shade_light.specs.Way.{lengthIf, wayTo}
 
 -- a float without its sign
@@ -124,8 +124,3 @@ away-is light view bias scale e = go (light .directional)
     go : (b : Bool) → lengthIf (not b || isScaled (light .distance)) (plusOf (light .position) view) ≡ awayOf view (light .position)
     go true = rw e (sym (one-root view (light .position)))
     go false = sym (one-root view (light .position))
-
--- and a light that isn't directional has its way, over its length, as its vector
-pub vector-is : (light : Light) (view : List Float) → light .directional ≡ false → overOf (wayTo light view .vector) (wayTo light view .length) ≡ lightVector light view
-unfolding wayTo lengthIf lightVector normalizedOf
-vector-is light view e = rw e refl

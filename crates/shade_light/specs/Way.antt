@@ -1,4 +1,4 @@
--- The way to a light, as the code has it: the vector that `Toward` makes a unit vector of, with its length, which is also how far the light is away (AwayLaws). Definitions only.
+-- The way to a light, as the code has it: the light's vector, and how far the light is away where something reads that (AwayLaws). Definitions only.
 use mathlib.Core.List.{List}
 use mathlib.Core.Bool.{Bool, not, cond, _||_}
 use lib.Ieee.{Float}
@@ -7,7 +7,8 @@ use Rattle.binary32.specs.Numbers.{float0}
 use Rattle.vectors.specs.Vectors.{plusOf, dotOf}
 use Rattle.block.specs.Words.{isScaled}
 use Rattle.lighting.specs.declared.Light.{Light}
-use Rattle.shade_light.specs.declared.Way.{Way}
+use Rattle.shade_types.specs.declared.Way.{Way}
+use Rattle.shade_light.specs.Toward.{lightVector}
 
 unfoldable pub lengthIf : Bool → List Float → Float
 lengthIf needed v = cond needed (rootOf (dotOf v v)) float0
@@ -16,6 +17,6 @@ lengthIf needed v = cond needed (rootOf (dotOf v v)) float0
 unfoldable pub wayTo : Light → List Float → Way
 wayTo light view =
     record {
-      vector = plusOf (light .position) view;
+      vector = lightVector light view;
       length = lengthIf (not (light .directional) || isScaled (light .distance)) (plusOf (light .position) view);
     }

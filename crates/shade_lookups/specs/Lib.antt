@@ -1,3 +1,1 @@
-pub mod Lookups
 pub mod Readings
-pub mod ReadingsLaws

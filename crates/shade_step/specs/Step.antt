@@ -3,12 +3,12 @@ use Prim.Native.Nat.{ℕ}
 use mathlib.Core.List.{List}
 use mathlib.Core.Bool.{Bool}
 use Rattle.lighting.specs.declared.Light.{Light}
-use Rattle.shade_surface.specs.declared.Frame.{Frame}
+use Rattle.shade_types.specs.declared.Frame.{Frame}
 use Rattle.shade_light.specs.Toward.{towardOf}
-use Rattle.shade_lookups.specs.declared.Lookups.{Lookups}
-use Rattle.shade_lookups.specs.Lookups.{valuesOf}
-use Rattle.shade_sums.specs.declared.Settings.{Settings}
-use Rattle.shade_sums.specs.declared.Sums.{Sums}
+use Rattle.shade_types.specs.declared.Lookups.{Lookups}
+use Rattle.shade_step.specs.Lookups.{valuesOf}
+use Rattle.shade_types.specs.declared.Settings.{Settings}
+use Rattle.shade_types.specs.declared.Sums.{Sums}
 use Rattle.shade_sums.specs.Sums.{withLight}
 
 -- the sums with one light's contribution; `last` is the last slot lit

@@ -25,12 +25,24 @@ use Rattle.lighting.specs.declared.Bump.the-variants.{Flat}
 use Rattle.lighting.specs.declared.Distance.{Distance}
 use Rattle.lighting.specs.declared.Distance.the-variants.{Without, Scaled}
 use Rattle.block.specs.Answers.{bumpUnit, shadowUnit}
-use Rattle.shade_surface.specs.Surface.{lengthOf, quaternionOver, unitQuaternion, inverted, shadowOf, perturbed, rebuiltZ, rebuilt, surfaceNormal, surfaceTangent, tangentOf, unitIf, frameOf}
-use Rattle.shade_light.specs.Toward.{lightVector, halfOf, towardOf, offsetOf, awayOf, alongTangent, inputsBy, inputsOf, facingOf, highlightsOf, factorBy, factorOf}
-use Rattle.shade_lookups.specs.Lookups.{present, placeOf, inputOf, valueOf, valueIf, spotOf, fresnelOf, distancePlace, distanceBy, distanceOf, valuesBy, valuesOf}
-use Rattle.shade_sums.specs.Sums.{primaryOf, secondaryOf, alphaOf, diffuseOf, timesIf, specular0Of, reflectedOf, specular1Of, specularBy, specularOf, shadowFor, addedOf, summedOf, withLightBy, withLight, shadowedAlpha, finishOf}
+use Rattle.shade_surface.specs.Surface.{lengthOf, quaternionOver, unitQuaternion, tangentOf, unitIf, frameOf}
+use Rattle.shade_bump.specs.Bump.{perturbed, rebuiltZ, rebuilt, surfaceNormal, surfaceTangent}
+use Rattle.shade_shadow.specs.Shadow.{inverted, shadowOf}
+use Rattle.shade_light.specs.Toward.{lightVector, halfOf, towardOf, offsetOf, awayOf}
+use Rattle.shade_inputs.specs.Inputs.{alongTangent, inputsBy, inputsOf}
+use Rattle.shade_facing.specs.Facing.{facingOf, highlightsOf, factorBy, factorOf}
+use Rattle.shade_values.specs.Values.{present}
+use Rattle.shade_step.specs.Lookups.{valueOf, valueIf, spotOf, fresnelOf, distanceBy, distanceOf, valuesBy, valuesOf}
+use Rattle.shade_distance.specs.Distance.{distancePlace}
+use Rattle.shade_places.specs.Places.{placeOf, inputOf}
+use Rattle.shade_shadow.specs.Shadow.{primaryOf, secondaryOf, alphaOf}
+use Rattle.shade_terms.specs.Terms.{diffuseOf, timesIf, specular0Of, reflectedOf, specular1Of, specularBy, specularOf}
+use Rattle.shade_sums.specs.Sums.{shadowFor, addedOf, summedOf, withLightBy, withLight}
+use Rattle.shade_channels.specs.Channels.{shadowedAlpha, finishOf}
 use Rattle.shade_step.specs.Step.{stepOf}
-use Rattle.shading.specs.Shade.{lookupsOf, settingsOf, sumsBy, sumsOf, lightingFrame, lightingShadow, finishedOf, shadeBy, shadeOf, coloursOf}
+use Rattle.lighting_parts.specs.Parts.{lookupsOf, settingsOf, lightingFrame, lightingShadow, finishedOf}
+use Rattle.light_sums.specs.Sums.{sumsBy}
+use Rattle.shading.specs.Shade.{sumsOf, shadeBy, shadeOf, coloursOf}
 
 abbrev half : Float
 half = floatOf 0x3f00_0000

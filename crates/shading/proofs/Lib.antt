@@ -1,4 +1,3 @@
 -- Facts that the functions' proofs share, and closed runs of the definition.
 mod Answers
-mod Eight
 mod Examples

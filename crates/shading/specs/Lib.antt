@@ -1,4 +1,3 @@
 pub mod Shade
 pub mod ShadeLaws
-pub mod Numbered
 pub mod Answers

@@ -11,12 +11,15 @@ use Rattle.binary32.specs.Quantize.{quantizedOf}
 use Rattle.vectors.specs.Vectors.{at}
 use Rattle.lighting.specs.declared.Light.{Light}
 use Rattle.lighting.specs.declared.Lighting.{Lighting}
-use Rattle.shade_surface.specs.declared.Frame.{Frame}
-use Rattle.shade_lookups.specs.declared.Lookups.{Lookups}
-use Rattle.shade_sums.specs.declared.Settings.{Settings}
-use Rattle.shade_sums.specs.Sums.{addedOf, summedOf, withLightBy, withLight, shadowedAlpha, finishOf}
+use Rattle.shade_types.specs.declared.Frame.{Frame}
+use Rattle.shade_types.specs.declared.Lookups.{Lookups}
+use Rattle.shade_types.specs.declared.Settings.{Settings}
+use Rattle.shade_sums.specs.Sums.{addedOf, summedOf, withLightBy, withLight}
+use Rattle.shade_channels.specs.Channels.{shadowedAlpha, finishOf}
 use Rattle.shade_step.specs.Step.{stepOf}
-use Rattle.shading.specs.Shade.{settingsOf, sumsBy, sumsOf, finishedOf, shadeBy, shadeOf}
+use Rattle.lighting_parts.specs.Parts.{settingsOf, finishedOf}
+use Rattle.light_sums.specs.Sums.{sumsBy}
+use Rattle.shading.specs.Shade.{sumsOf, shadeBy, shadeOf}
 
 neither : (b : Bool) → (b && false) ≡ false
 neither true = refl

@@ -4,7 +4,7 @@ use native.Mathlib.Omega.{arith}
 use mathlib.Core.Path.{_≡_, refl}
 use mathlib.Core.List.{List}
 use Rattle.fragments.specs.Fragment.{texelsOf, texelAt}
-use Rattle.shading.specs.Shade.{texelOf}
+use Rattle.lighting_parts.specs.Parts.{texelOf}
 
 pub texel : (q : List ℕ) (unit : ℕ) → unit ≤ 3 → texelAt q unit ≡ texelOf (texelsOf q) unit
 unfolding texelsOf

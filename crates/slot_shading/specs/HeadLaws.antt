@@ -16,7 +16,9 @@ use Rattle.block.specs.FormedLaws.{formed-parts}
 use Rattle.block.specs.WordLaws.{bump-unit-small, shadow-unit-small}
 use Rattle.block.specs.Answers.{bumpUnit, shadowUnit}
 use Rattle.block.specs.Reading.{lightOf, slotLight, lightsOf, lightingOf}
-use Rattle.shading.specs.Shade.{lookupsOf, settingsOf, sumsBy, sumsOf, lightingFrame, lightingShadow, finishedOf, shadeBy, shadeOf}
+use Rattle.lighting_parts.specs.Parts.{lookupsOf, settingsOf, lightingFrame, lightingShadow, finishedOf}
+use Rattle.light_sums.specs.Sums.{sumsBy}
+use Rattle.shading.specs.Shade.{sumsOf, shadeBy, shadeOf}
 use Rattle.slot_shading.specs.Head.{headOf}
 
 module _ (w : ℕ → ℕ) where

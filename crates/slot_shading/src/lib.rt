@@ -1,13 +1,13 @@
 // The shading of a fragment from a block that was found well formed. The lights are read slot by slot, where they are needed, and the block, the tables
 // and the fragment come as words or as bytes.
-use block_reading::light_of;
+use block_light::light_of;
 use lighting::Lighting;
 use lighting::Slot;
 use lighting::blank_light;
-use shade_lookups::Lookups;
-use shade_sums::Settings;
-use shade_sums::Sums;
-use shade_surface::Frame;
+use shade_types::Frame;
+use shade_types::Lookups;
+use shade_types::Settings;
+use shade_types::Sums;
 ghost use mathlib.Core.Path.{_≡_};
 ghost use mathlib.Core.Bool.{true};
 ghost use Prim.Native.Nat.{_≤_};
@@ -18,7 +18,9 @@ ghost use Rattle.block.specs.Formed.{words, wellFormed};
 ghost use Rattle.block.specs.Reading.{lightsOf, lightingOf};
 ghost use Rattle.block.specs.Answers.{bumpUnit, shadowUnit, nanFree};
 ghost use Rattle.slot_shading.specs.Head.{headOf};
-ghost use Rattle.shading.specs.Shade.{sumsBy, lightingFrame, lightingShadow, shadeOf};
+ghost use Rattle.light_sums.specs.Sums.{sumsBy};
+ghost use Rattle.shading.specs.Shade.{shadeOf};
+ghost use Rattle.lighting_parts.specs.Parts.{lightingFrame, lightingShadow};
 
 // The lighting but its lights, which stay blank.
 fn head_of(block: &[u32], bytes: &[u8], plain: bool) -> Lighting
@@ -26,7 +28,7 @@ fn head_of(block: &[u32], bytes: &[u8], plain: bool) -> Lighting
     ensures { λ r. ⌜ r ≡ headOf (words (given (now (block .entry)) (now (bytes .entry)))) ⌝ }
 {
     let lights = [blank_light(); 8];
-    block_reading::lighting_with(block, bytes, plain, lights)
+    block_head::lighting_with(block, bytes, plain, lights)
 }
 
 fn frame_of(l: Lighting, fragment: &[u32], bytes: &[u8]) -> Frame
@@ -36,7 +38,7 @@ fn frame_of(l: Lighting, fragment: &[u32], bytes: &[u8]) -> Frame
     let bump = l.bump;
     let quaternion = fragments::quaternion_of(fragment, bytes);
     let view = fragments::view_of(fragment, bytes);
-    let texel = fragments::texel_at(fragment, bytes, shade_surface::bump_unit(bump));
+    let texel = fragments::texel_at(fragment, bytes, shade_bump::bump_unit(bump));
     shade_surface::frame_of(bump, texel, l.config, l.needs_view, quaternion, view)
 }
 
@@ -45,8 +47,8 @@ fn shadow_of(l: Lighting, fragment: &[u32], bytes: &[u8]) -> [f32; 4]
     ensures { λ r. ⌜ r ≡ lightingShadow l (texelsOf (given (now (fragment .entry)) (now (bytes .entry)))) ⌝ }
 {
     let shadow = l.shadow;
-    let texel = fragments::texel_at(fragment, bytes, shade_surface::shadow_unit(shadow));
-    shade_surface::shadow_texel(shadow, texel)
+    let texel = fragments::texel_at(fragment, bytes, shade_shadow::shadow_unit(shadow));
+    shade_shadow::shadow_texel(shadow, texel)
 }
 
 // The sums of the lit slots. `plain` says that no word of the block is a NaN's pattern.
@@ -73,7 +75,7 @@ fn sum_slots(
     let mut i = 0;
     while i < count {
         let light = light_of(block, block_bytes, 40 + 36 * i, plain);
-        let last = shading::is_last(Slot(i), count);
+        let last = light_sums::is_last(Slot(i), count);
         sums = shade_step::step(
             tables,
             table_bytes,
@@ -107,8 +109,8 @@ pub fn shade_lit(
     let head = head_of(block, block_bytes, plain);
     let frame = frame_of(head, fragment, fragment_bytes);
     let shadow = shadow_of(head, fragment, fragment_bytes);
-    let lookups = shading::lookups_of(head);
-    let settings = shading::settings_of(head, shadow);
+    let lookups = lighting_parts::lookups_of(head);
+    let settings = lighting_parts::settings_of(head, shadow);
     let sums = sum_slots(
         block,
         block_bytes,
@@ -120,5 +122,5 @@ pub fn shade_lit(
         settings,
         head.light_count,
     );
-    shading::finished(head, sums, shadow)
+    lighting_parts::finished(head, sums, shadow)
 }

@@ -9,8 +9,8 @@ use Rattle.refusals.specs.Lengths.{fileRefusal}
 use Rattle.decoding.specs.Decode.{decoded}
 use Rattle.unit.specs.declared.Cache.{Cache}
 use Rattle.unit.specs.declared.CachedRead.{CachedRead}
-use Rattle.decoding.specs.RegistersRead.{keptWords}
-use Rattle.unit.specs.Comparing.{sameWords}
+use Rattle.registers_read.specs.RegistersRead.{keptWords}
+use Rattle.registers_read.specs.Comparing.{sameWords}
 
 -- the cache is not empty, and its words are the file's
 unfoldable pub current : List ℕ → Cache → Bool

@@ -24,8 +24,9 @@ use Rattle.lighting.specs.declared.Light.{Light}
 use Rattle.lighting.specs.declared.Lighting.{Lighting}
 use Rattle.lighting.specs.declared.OptionalLighting.{OptionalLighting}
 use Rattle.lights.specs.Claims.{LightFits, DistanceFits}
-use Rattle.decoding.specs.Tables.{scaleOf}
-use Rattle.decoding.specs.Decode.{lightingOn, lightingOf, off, decoded}
+use Rattle.lookups.specs.Tables.{scaleOf}
+use Rattle.register_lighting.specs.Lighting.{lightingOf}
+use Rattle.decoding.specs.Decode.{lightingOn, off, decoded}
 use Rattle.decoding.specs.Claims.{IsScale, LookupLimits, OptionalLookupLimits, BumpLimits, ShadowLimits, Limits}
 use Rattle.decoding.specs.LimitLaws.{scale-each, scale-fits, lighting-limits}
 use Rattle.block.specs.Words.{noLight, lightAt, packed}

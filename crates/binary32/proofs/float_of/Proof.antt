@@ -5,7 +5,7 @@ use mathlib.Core.Bool.{Bool, not}
 use borrow.Author.Needs.{needs}
 use lib.Dec.{T}
 use Rattle.binary32.specs.WordsLaws.{nan-pattern-is-nan}
-use Rattle.binary32.proofs.Nans.{none, at-most-infinity, above-infinity}
+use Rattle.binary32.specs.NanLaws.{none, at-most-infinity, above-infinity}
 use Rattle.binary32.proofs.float_of.Statement.{statement}
 use Rattle.binary32.proofs.float_of.Tie as tie
 

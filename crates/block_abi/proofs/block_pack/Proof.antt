@@ -20,7 +20,7 @@ whole f b d h e = rw (le-leb 474 (length f) h, e) refl
 
 returns : tie.Need-returns
 unfolding packFileIf fileRefusal
-returns c = simp (lt-leb _ _ (c .if1 .taken))
+returns c = simp (lt-leb 474 _ (c .if1 .taken))
 
 decode-requires : tie.Need-decode-requires
 decode-requires c κs = search needs

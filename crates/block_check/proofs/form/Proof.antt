@@ -5,7 +5,7 @@ use native.Mathlib.Omega.{arith}
 use borrow.Author.Tests.{eq-eqb, ne-eqb}
 use Rattle.sources.specs.Sources.{given}
 use Rattle.block.specs.Formed.{words}
-use Rattle.block_check.specs.FormLaws.{all-zero, not-zero, many}
+use Rattle.block_check.proofs.Forms.{all-zero, not-zero, many}
 use Rattle.block_check.proofs.Answers.{sized, unsized}
 use borrow.Author.Needs.{needs}
 use Rattle.block_check.proofs.form.Statement.{statement}
@@ -45,7 +45,8 @@ returns-4 c =
     sym (many (words (given (s .args .block .now) (s .args .bytes .now))) h) ∙ sized (given (s .args .block .now) (s .args .bytes .now)) _ (c .before .before .before .before .before .count .ensures) (c .before .before .before .before .if1 .left)
 
 lit-form-requires : tie.Need-lit-form-requires
-lit-form-requires c κs = search needs
+lit-form-requires c κs =
+    (sym (c .before .before .before .before .before .count .ensures) ∙ c .before .before .before .before .if1 .left, (λ e. c .before .before .if2 .left (c .before .before .before .word .ensures ∙ e)), omega (arith, c .before .word2 .ensures, c .if4 .left))
 
 returns-5 : tie.Need-returns-5
 returns-5 c = let s = c .before .before .before .before .before .before .before .before .before in c .lit-form .ensures ∙ sized (given (s .args .block .now) (s .args .bytes .now)) _ (c .before .before .before .before .before .before .count .ensures) (c .before .before .before .before .before .if1 .left)

@@ -2,17 +2,17 @@
 -- its size or by its words, and no text is longer than the output. Assumes nothing.
 use Prim.Native.Nat.{ℕ}
 use native.Mathlib.Omega.{arith}
-use mathlib.Core.Path.{_≡_, sym, ap, _∙_}
+use mathlib.Core.Path.{sym, ap, _∙_}
 use mathlib.Core.List.{List}
 use borrow.Author.Tests.{lt-leb, not-true, not-false}
+use lib.ListN.{length}
 use lib.Seq.{length-take-le}
 use Rattle.writing.specs.Writing.{out, puts}
-use Rattle.capture_contents.specs.Contents.{wordsRefusal}
+use Rattle.capture_check.specs.Refusal.{wordsRefusal}
 use Rattle.capture_contents.specs.ContentsLaws.{sized-most}
 use Rattle.refusals.specs.declared.Refusal.the-variants.{BadCapture}
-use Rattle.capture.specs.declared.Answer.the-variants.{Refused}
-use Rattle.capture.specs.Printed.{printedIf}
-use Rattle.capture.specs.Answers.{captures}
+use Rattle.capture_answers.specs.declared.Answer.the-variants.{Refused}
+use Rattle.capture_printed.specs.Printed.{printedIf, captures}
 use Rattle.capture.proofs.Whole.{printed-bad, printed-good, captures-is, front-words}
 use borrow.Author.Needs.{needs}
 use Rattle.capture.proofs.run_capture.Statement.{statement}
@@ -20,7 +20,9 @@ use Rattle.capture.proofs.run_capture.Tie as tie
 
 returns : tie.Need-returns
 unfolding captures
-returns c = (rw (lt-leb 22784 _ (c .if1 .taken)), search needs)
+returns c =
+    let a = c .before .before .before .args in
+    (rw (lt-leb 22784 (length (a .output .now)) (omega arith)), search needs)
 
 sized-requires : tie.Need-sized-requires
 sized-requires c κs = search needs

@@ -1,11 +1,10 @@
 -- `capture_body::run_body` meets its contract. Each arm makes the calls of its kind, and only a kind 2 body prints, from the copy that its own
 -- hand-over left. Assumes nothing.
-use Prim.Native.Nat.{_+_, _*_, _/_}
 use native.Mathlib.Omega.{arith}
 use mathlib.Core.Path.{ap, _∙_}
 use Rattle.lists.specs.States.{State}
 use Rattle.writing.specs.Writing.{out, puts}
-use Rattle.capture_body.specs.Body.{afterLines}
+use Rattle.capture_calls.specs.Run.{afterLines}
 use Rattle.capture_body.proofs.ByKind.{after-writes, after-hand-over, after-restore, after-other, prints-lines, prints-nothing}
 use borrow.Author.Needs.{needs}
 use Rattle.capture_body.proofs.run_body.Statement.{statement}

@@ -13,7 +13,7 @@ use Rattle.writing.specs.PieceLaws.{part-is, part-length}
 use Rattle.capture_contents.specs.Contents.{triples, contentsEnd, gapless}
 use Rattle.capture_contents.specs.ContentsLaws.{triples-all, triples-none, body-end, body-rest}
 use Rattle.capture_body.specs.Body.{lentState}
-use Rattle.capture_run.specs.Run.{callsOf, copyPrints}
+use Rattle.capture_calls.specs.Run.{callsOf, copyPrints}
 use Rattle.capture_run.proofs.Turns.{calls-turn, prints-turn}
 use borrow.Author.Needs.{needs}
 use Rattle.capture_run.proofs.run_bodies.Statement.{statement}
@@ -118,7 +118,7 @@ loop-again c =
     let s = lentState (l .file) (l .tables) (l .block) (l .copied) (l .left) in (
       omega (arith, t),
       l .inv .1,
-      h,
+      omega (arith, h),
       omega (arith, l .inv .3, r .kept .1 .1 .0),
       omega (arith, l .inv .4, r .kept .1 .1 .1 .0),
       omega (arith, l .inv .5, r .kept .1 .1 .1 .1 .0),

@@ -14,11 +14,11 @@ decode-requires c κs = search needs
 
 returns : tie.Need-returns
 unfolding fileRefusal readIf
-returns c = simp (lt-leb _ _ (c .before .if1 .taken), c .off .ensures)
+returns c = simp (lt-leb 474 _ (c .before .if1 .taken), c .off .ensures)
 
 returns-2 : tie.Need-returns-2
 unfolding fileRefusal readIf
-returns-2 c = simp (le-leb _ _ (c .before .if1 .left), c .decode .ensures)
+returns-2 c = simp (le-leb 474 _ (c .before .if1 .left), c .decode .ensures)
 
 pub read-spec : {M : Type 1} → statement M
 read-spec = tie.close (tie.spec off-requires decode-requires returns returns-2)

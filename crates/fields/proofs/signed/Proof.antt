@@ -2,7 +2,7 @@
 use native.Mathlib.Omega.{arith}
 use borrow.Author.Tests.{lt-ltb, le-ltb}
 use Rattle.fields.specs.Fixed.{signed13}
-use Rattle.fields.proofs.Casts.{exact, below-zero}
+use Rattle.binary32.specs.CastLaws.{exact, below-zero}
 use Rattle.fields.proofs.signed.Statement.{statement}
 use Rattle.fields.proofs.signed.Tie as tie
 

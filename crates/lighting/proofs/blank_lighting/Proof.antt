@@ -9,7 +9,7 @@ blank-light-requires c κs = search needs
 
 returns : tie.Need-returns
 unfolding blankLighting
-returns c = cc
+returns c = rw (c .blank-light .ensures)
 
 pub blank-lighting-spec : {M : Type 1} → statement M
 blank-lighting-spec = tie.close (tie.spec blank-light-requires returns)

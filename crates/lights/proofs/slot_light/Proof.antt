@@ -22,7 +22,6 @@ returns : tie.Need-returns
 unfolding slotLight
 returns c =
     simp (
-      c .before .before .before .before .light-count .ensures,
       lt-ltb _ _ (rw (c .before .before .before .before .light-count .ensures) at (c .before .before .if1 .taken)),
       c .before .light-number .ensures,
       c .light .ensures,
@@ -32,7 +31,6 @@ returns-2 : tie.Need-returns-2
 unfolding slotLight
 returns-2 c =
     simp (
-      c .before .before .before .light-count .ensures,
       le-ltb _ _ (rw (c .before .before .before .light-count .ensures) at (c .before .if1 .left)),
       c .blank-light .ensures,
     )

@@ -1,8 +1,8 @@
 -- `lightshow::show` is safe. The output has the 22,784 bytes that every capture's text fits in, so it is never too short. Assumes nothing.
 use native.Mathlib.Omega.{arith}
-use mathlib.Core.Path.{_≡_, sym, ap, _∙_}
+use mathlib.Core.Path.{sym}
 use lib.Seq.{length-take-le}
-use Rattle.capture.specs.AnswerLaws.{output-suffices}
+use Rattle.capture_printed.specs.AnswerLaws.{output-suffices}
 use borrow.Author.Needs.{needs}
 use Rattle.lightshow.proofs.show.Statement.{statement}
 use Rattle.lightshow.proofs.show.Tie as tie

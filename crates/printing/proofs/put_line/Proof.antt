@@ -2,7 +2,7 @@
 -- number with its gap takes at most four bytes. Assumes nothing.
 use Prim.Native.Nat.{_≤_, _+_, _-_, _*_}
 use native.Mathlib.Omega.{arith}
-use mathlib.Core.Path.{_≡_, refl, sym, _∙_}
+use mathlib.Core.Path.{_≡_, refl}
 use lib.ListN.{length, drop, length-set}
 use Rattle.writing.specs.Writing.{puts}
 use Rattle.writing.specs.Writing as Writing

@@ -5,7 +5,7 @@ use mathlib.Core.List.{[], _∷_, _++_}
 use lib.ListN.{length-set}
 use Rattle.writing.specs.Writing.{Out, puts}
 use Rattle.writing.specs.WritingLaws.{puts-more}
-use Rattle.printing.specs.Text.{decimal}
+use Rattle.decimals.specs.Decimal.{decimal}
 use borrow.Author.Needs.{needs}
 use Rattle.printing.proofs.put_refused.Statement.{statement}
 use Rattle.printing.proofs.put_refused.Tie as tie

@@ -2,7 +2,7 @@
 -- Assumes nothing.
 use Prim.Native.Nat.{ℕ, _+_, _-_, _*_, _≤_}
 use native.Mathlib.Omega.{arith}
-use Rattle.root.proofs.Squares.{sq-mono, small-root, step-down}
+use Rattle.root.proofs.Squares.{sq-mono, small-root, square-pos, step-down}
 use Rattle.root.proofs.stepped.Statement.{statement}
 use Rattle.root.proofs.stepped.Tie as tie
 
@@ -49,13 +49,13 @@ mul-loop2 : tie.Need-mul-loop2 Inv-loop μ-loop Inv-loop2 μ-loop2
 mul-loop2 c = omega (arith, square (c .loop2 .r) (c .loop2 .inv .1))
 
 sub-r : tie.Need-sub-r Inv-loop μ-loop Inv-loop2 μ-loop2
-sub-r c = step-down (c .before .before .before .before .args .w) (c .before .loop2 .r) (omega arith) (omega arith) .0
+sub-r c = square-pos (c .before .loop2 .r) (omega arith)
 
 loop2-less : tie.Need-loop2-less Inv-loop μ-loop Inv-loop2 μ-loop2
-loop2-less c = omega (arith, step-down (c .before .before .before .before .args .w) (c .before .loop2 .r) (omega arith) (omega arith) .0)
+loop2-less c = omega (arith, square-pos (c .before .loop2 .r) (omega arith))
 
 loop2-again : tie.Need-loop2-again Inv-loop μ-loop Inv-loop2 μ-loop2
-loop2-again c = (step-down (c .before .before .before .before .args .w) (c .before .loop2 .r) (omega arith) (omega arith) .1, omega arith)
+loop2-again c = (step-down (c .before .before .before .before .args .w) (c .before .loop2 .r) (omega arith) (omega arith), omega arith)
 
 returns : tie.Need-returns Inv-loop μ-loop Inv-loop2 μ-loop2
 returns c = record { above = c .loop2-test .left; below = c .before .loop2 .inv .0 }

@@ -1,18 +1,13 @@
--- `shade_light::toward_light` meets its contract: each operation and call is the definition's, in its order. Assumes nothing.
-use Rattle.shade_light.specs.Toward.{towardOf}
+-- `shade_light::toward_light` meets its contract: the half vector is the definition's of this light's vector. Assumes nothing.
 use borrow.Author.Needs.{needs}
 use Rattle.shade_light.proofs.toward_light.Statement.{statement}
 use Rattle.shade_light.proofs.toward_light.Tie as tie
-
-light-vector-requires : tie.Need-light-vector-requires
-light-vector-requires c κs = search needs
 
 half-requires : tie.Need-half-requires
 half-requires c κs = search needs
 
 returns : tie.Need-returns
-unfolding towardOf
-returns c = simp (c .half .ensures, c .before .light-vector .ensures)
+returns c = simp (c .half .ensures)
 
 pub toward-light-spec : {M : Type 1} → statement M
-toward-light-spec = tie.close (tie.spec light-vector-requires half-requires returns)
+toward-light-spec = tie.close (tie.spec half-requires returns)

@@ -1,5 +1,9 @@
--- `shade_light::way_to` meets its contract: each operation and call is the definition's, in its order. Assumes nothing.
-use Rattle.shade_light.specs.Way.{wayTo}
+-- `shade_light::way_to` meets its contract. A directional light's vector is its direction, and any other's is the way over its length, which is how a
+-- vector is normalised; the length is worked out where the definition reads one. Assumes nothing.
+use mathlib.Core.Path.{sym, _∙_}
+use Rattle.vectors.specs.Vectors.{normalizedOf}
+use Rattle.shade_light.specs.Toward.{lightVector}
+use Rattle.shade_light.specs.Way.{lengthIf, wayTo}
 use borrow.Author.Needs.{needs}
 use Rattle.shade_light.proofs.way_to.Statement.{statement}
 use Rattle.shade_light.proofs.way_to.Tie as tie
@@ -10,16 +14,36 @@ plus-requires c κs = search needs
 scaled-requires : tie.Need-scaled-requires
 scaled-requires c κs = search needs
 
-either-requires : tie.Need-either-requires
-either-requires c κs = search needs
-
-length-if-requires : tie.Need-length-if-requires
-length-if-requires c κs = search needs
+length-of-requires : tie.Need-length-of-requires
+length-of-requires c κs = search needs
 
 returns : tie.Need-returns
-unfolding wayTo
-returns c = simp (c .length-if .ensures, c .before .either .ensures, c .before .before .scaled .ensures, c .before .before .before .before .plus .ensures)
+unfolding wayTo lengthIf lightVector
+returns c = simp (c .length-of .ensures, c .before .before .before .before .plus .ensures, c .before .before .before .if1 .taken, sym (c .before .before .scaled .ensures) ∙ c .before .if2 .taken)
+
+returns-2 : tie.Need-returns-2
+unfolding wayTo lengthIf lightVector
+returns-2 c = simp (c .before .before .if1 .taken, sym (c .before .scaled .ensures) ∙ c .if2 .left)
+
+length-of-requires-2 : tie.Need-length-of-requires-2
+length-of-requires-2 c κs = search needs
+
+over-requires : tie.Need-over-requires
+over-requires c κs = search needs
+
+returns-3 : tie.Need-returns-3
+unfolding wayTo lengthIf lightVector normalizedOf
+returns-3 c = simp (c .over .ensures, c .before .length-of2 .ensures, c .before .before .before .plus .ensures, c .before .before .if1 .left)
 
 pub way-to-spec : {M : Type 1} → statement M
 way-to-spec =
-    tie.close (tie.spec plus-requires scaled-requires either-requires length-if-requires returns)
+    tie.close
+    (tie.spec
+    plus-requires
+    scaled-requires
+    length-of-requires
+    returns
+    returns-2
+    length-of-requires-2
+    over-requires
+    returns-3)

@@ -1,7 +1,11 @@
--- `shade_step::step` meets its contract: each operation and call is the definition's, in its order. Assumes nothing.
-use mathlib.Core.Path.{_≡_, ap}
-use Rattle.shade_light.specs.declared.Way.{Way}
+-- `shade_step::step` meets its contract: each operation and call is the definition's, in its order, and a light that reads no table has 1 for each value.
+-- Assumes nothing.
+use mathlib.Core.Path.{sym, _∙_}
+use Rattle.sources.specs.Sources.{given}
+use Rattle.shade_light.specs.Toward.{towardOf}
 use Rattle.shade_step.specs.Step.{stepOf}
+use Rattle.shade_step.specs.ReadingsLaws.{read-none}
+use Rattle.shade_step.proofs.Ways.{toward-is, distance-is}
 use borrow.Author.Needs.{needs}
 use Rattle.shade_step.proofs.step.Statement.{statement}
 use Rattle.shade_step.proofs.step.Tie as tie
@@ -10,20 +14,53 @@ way-to-requires : tie.Need-way-to-requires
 way-to-requires c κs = search needs
 
 toward-light-requires : tie.Need-toward-light-requires
-toward-light-requires c κs = c .way-to .ensures
+toward-light-requires c κs = search needs
+
+distance-of-requires : tie.Need-distance-of-requires
+distance-of-requires c κs = search needs
+
+reads-tables-requires : tie.Need-reads-tables-requires
+reads-tables-requires c κs = search needs
 
 values-of-requires : tie.Need-values-of-requires
 values-of-requires c κs =
-    let s = c .before .before .before .before .before .before in
-    (s .pre .0, s .pre .1, ap (λ (w : Way). w .length) (c .before .way-to .ensures))
+    let s = c .before .before .before .before .before .before .before .before .before .before in
+    (s .pre .0, s .pre .1, distance-is (given (s .args .tables .now) (s .args .bytes .now)) (s .args .light) (s .args .frame .view) _ _ (c .before .before .before .before .before .way-to .ensures) (c .before .before .distance-of .ensures))
 
 with-light-requires : tie.Need-with-light-requires
 with-light-requires c κs = search needs
 
+with-unread-requires : tie.Need-with-unread-requires
+with-unread-requires c κs = search needs
+
 returns : tie.Need-returns
 unfolding stepOf
-returns c = simp (c .with-light .ensures, c .before .values-of .ensures, c .before .before .toward-light .ensures)
+returns c =
+    let s = c .before .before .before .before .before .before .before .before .before .before .before .before in
+    simp
+    (c .with-light .ensures, c .before .values-of .ensures, toward-is (s .args .light) (s .args .frame) (s .args .lookups .«needs_half») _ _ (c .before .before .before .before .before .before .before .way-to .ensures) (c .before .before .before .before .before .toward-light .ensures))
+
+returns-2 : tie.Need-returns-2
+unfolding stepOf
+returns-2 c =
+    let s = c .before .before .before .before .before .before .before .before .before .before .before in
+    simp (
+      c .with-unread .ensures,
+      toward-is (s .args .light) (s .args .frame) (s .args .lookups .«needs_half») _ _ (c .before .before .before .before .before .before .way-to .ensures) (c .before .before .before .before .toward-light .ensures),
+      distance-is (given (s .args .tables .now) (s .args .bytes .now)) (s .args .light) (s .args .frame .view) _ _ (c .before .before .before .before .before .before .way-to .ensures) (c .before .before .before .distance-of .ensures),
+      read-none (given (s .args .tables .now) (s .args .bytes .now)) (s .args .lookups) (s .args .frame) (towardOf (s .args .light) (s .args .frame) (s .args .lookups .«needs_half»)) (s .args .light) (s .args .last) (s .pre .1) (sym (c .before .before .reads-tables .ensures) ∙ c .before .if1 .left),
+    )
 
 pub step-spec : {M : Type 1} → statement M
 step-spec =
-    tie.close (tie.spec way-to-requires toward-light-requires values-of-requires with-light-requires returns)
+    tie.close
+    (tie.spec
+    way-to-requires
+    toward-light-requires
+    distance-of-requires
+    reads-tables-requires
+    values-of-requires
+    with-light-requires
+    with-unread-requires
+    returns
+    returns-2)

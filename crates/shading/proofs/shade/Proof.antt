@@ -1,7 +1,7 @@
 -- `shading::shade` meets its contract: each answer is the definition's, by the tests that led to it (`Answers`). Assumes nothing.
 use Prim.Native.Nat.{ℕ}
 use Rattle.shading.specs.Shade.{shadeOf}
-use mathlib.Core.Path.{_≡_, refl, sym, ap, _∙_}
+use mathlib.Core.Path.{refl, sym, ap, _∙_}
 use mathlib.Core.List.{List, []}
 use lib.ListN.{length}
 use Rattle.sources.specs.SourcesLaws.{given-words}

@@ -1,7 +1,7 @@
 -- `slot_shading::frame_of` meets its contract: the texel of the bump's unit is read alone, and the rest is the definition's, in its order. Assumes nothing.
 use Rattle.sources.specs.Sources.{given}
 use Rattle.block.specs.Answers.{bumpUnit}
-use Rattle.shading.specs.Shade.{lightingFrame}
+use Rattle.lighting_parts.specs.Parts.{lightingFrame}
 use Rattle.slot_shading.proofs.Texels.{texel}
 use borrow.Author.Needs.{needs}
 use Rattle.slot_shading.proofs.frame_of.Statement.{statement}

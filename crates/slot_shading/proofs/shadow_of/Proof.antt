@@ -1,7 +1,7 @@
 -- `slot_shading::shadow_of` meets its contract: the texel of the shadow's unit is read alone, and the rest is the definition's, in its order. Assumes nothing.
 use Rattle.sources.specs.Sources.{given}
 use Rattle.block.specs.Answers.{shadowUnit}
-use Rattle.shading.specs.Shade.{lightingShadow}
+use Rattle.lighting_parts.specs.Parts.{lightingShadow}
 use Rattle.slot_shading.proofs.Texels.{texel}
 use borrow.Author.Needs.{needs}
 use Rattle.slot_shading.proofs.shadow_of.Statement.{statement}

@@ -10,7 +10,7 @@ use Rattle.sources.specs.Sources.{given}
 use Rattle.block.specs.Formed.{words}
 use Rattle.block.specs.FormedLaws.{formed-parts}
 use Rattle.block.specs.Reading.{lightsOf}
-use Rattle.shading.specs.Shade.{sumsBy}
+use Rattle.light_sums.specs.Sums.{sumsBy}
 use Rattle.slot_shading.specs.HeadLaws.{lit-light, lit-number}
 use Rattle.slot_shading.proofs.sum_slots.Statement.{statement}
 use Rattle.slot_shading.proofs.sum_slots.Tie as tie

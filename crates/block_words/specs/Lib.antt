@@ -1,3 +1,0 @@
-pub mod Put
-pub mod PutLaws
-pub mod Parts

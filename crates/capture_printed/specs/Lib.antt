@@ -1,0 +1,4 @@
+pub mod Printed
+pub mod RefusalLaws
+pub mod PrintedLaws
+pub mod AnswerLaws

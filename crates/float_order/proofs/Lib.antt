@@ -1,0 +1,4 @@
+-- Facts that the functions' proofs share.
+mod Signs
+mod Ordered
+mod Bounds

@@ -1,0 +1,12 @@
+-- `lighting_parts::lookups_of` meets its contract: each operation and call is the definition's, in its order. Assumes nothing.
+use Rattle.lighting_parts.specs.Parts.{lookupsOf}
+use mathlib.Core.Path.{refl}
+use Rattle.lighting_parts.proofs.lookups_of.Statement.{statement}
+use Rattle.lighting_parts.proofs.lookups_of.Tie as tie
+
+returns : tie.Need-returns
+unfolding lookupsOf
+returns c = refl
+
+pub lookups-of-spec : {M : Type 1} → statement M
+lookups-of-spec = tie.close (tie.spec returns)

@@ -1,0 +1,12 @@
+-- `settings_check::shadow_formed` meets its contract: it is the definition. Assumes nothing.
+use mathlib.Core.Path.{refl}
+use Rattle.block.specs.Formed.{shadowFormed}
+use Rattle.settings_check.proofs.shadow_formed.Statement.{statement}
+use Rattle.settings_check.proofs.shadow_formed.Tie as tie
+
+returns : tie.Need-returns
+unfolding shadowFormed
+returns c = refl
+
+pub shadow-formed-spec : {M : Type 1} → statement M
+shadow-formed-spec = tie.close (tie.spec returns)

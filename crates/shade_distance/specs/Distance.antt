@@ -1,0 +1,21 @@
+-- Where a light's distance is read. Definitions only.
+use Prim.Native.Nat.{ℕ}
+use lib.Ieee.{Float}
+use Rattle.binary32.specs.Numbers.{float0, float1}
+use Rattle.binary32.specs.Order.{clampOf}
+use Rattle.binary32.specs.Places.{unsignedPlaceOf}
+use Rattle.binary32.specs.declared.Place.{Place}
+use Rattle.vectors.specs.Vectors.{_⊕_, _⊗_}
+use Rattle.lighting.specs.declared.Distance.{Distance}
+use Rattle.lighting.specs.declared.Distance.the-variants.{Without, Scaled}
+use Rattle.shade_types.specs.declared.Reading.{Reading}
+use Rattle.shade_types.specs.declared.Reading.the-variants.{Unread}
+use Rattle.shade_places.specs.Places.{tableFor, readingAt}
+
+-- place 1 reads entry 255 with delta 1
+unfoldable pub distancePlace : Float → Float → Float → Place
+distancePlace bias scale away = unsignedPlaceOf (clampOf (scale ⊗ away ⊕ bias) float0 float1)
+
+unfoldable pub distanceReadingBy : Distance → ℕ → Float → Reading
+distanceReadingBy Without number away = Unread
+distanceReadingBy (Scaled bias scale) number away = readingAt (tableFor 16 number) (distancePlace bias scale away)

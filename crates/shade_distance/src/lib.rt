@@ -1,0 +1,29 @@
+// Where a light's distance is read.
+ghost use mathlib.Core.Path.{_≡_};
+ghost use Rattle.shade_distance.specs.Distance.{distancePlace, distanceReadingBy};
+use binary32::Place;
+use lighting::Distance;
+use lighting::Light;
+use shade_places::table_for;
+use shade_types::Reading;
+
+fn distance_place(bias: f32, scale: f32, away: f32) -> Place
+    ensures { λ r. ⌜ r ≡ distancePlace bias scale away ⌝ }
+{
+    table_places::unsigned_place(float_order::clamp(scale * away + bias, 0.0, 1.0))
+}
+
+// Of a light that is so far away.
+pub fn distance_reading(light: Light, away: f32) -> Reading
+    ensures { λ r. ⌜ r ≡ distanceReadingBy (light .distance) (light .number .0) away ⌝ }
+{
+    let distance = light.distance;
+    let number = light.number;
+    match distance {
+        Distance::Without => Reading::Unread,
+        Distance::Scaled(bias, scale) => {
+            let place = distance_place(bias, scale, away);
+            Reading::At(table_for(16, number), place.entry, place.delta)
+        }
+    }
+}

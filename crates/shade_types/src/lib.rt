@@ -1,0 +1,83 @@
+// What shading passes from one step to the next, in the order in which the steps make it.
+use lighting::Lookup;
+use lighting::OptionalLookup;
+
+// What every light sees of the fragment: the surface's normal and tangent, turned by the quaternion,
+// and the view with its unit vector.
+pub struct Frame {
+    pub normal: [f32; 3],
+    pub tangent: [f32; 3],
+    pub view: [f32; 3],
+    pub norm_view: [f32; 3],
+}
+
+// The vector toward a light, and how far the light is away where something reads that: the two share one root.
+pub struct Way {
+    pub vector: [f32; 3],
+    pub length: f32,
+}
+
+// The light's unit vector, and the half vector between it and the view.
+pub struct Toward {
+    pub light_vector: [f32; 3],
+    pub half: [f32; 3],
+}
+
+// Of a lighting, the lookups and what their inputs need.
+pub struct Lookups {
+    pub config: u32,
+    pub needs_half: bool,
+    pub distribution0: OptionalLookup,
+    pub distribution1: OptionalLookup,
+    pub fresnel: OptionalLookup,
+    pub reflect_red: OptionalLookup,
+    pub reflect_green: OptionalLookup,
+    pub reflect_blue: OptionalLookup,
+    pub spotlight: Lookup,
+}
+
+// Where a value is read: the table, the entry, and how far past it.
+pub enum Reading {
+    Unread,
+    At(u32, u8, f32),
+}
+
+// Where the values of the lookups are read.
+pub struct Readings {
+    pub spot: Reading,
+    pub distribution0: Reading,
+    pub red: Reading,
+    pub green: Reading,
+    pub blue: Reading,
+    pub distribution1: Reading,
+    pub fresnel: Reading,
+}
+
+// What a light reads from the tables, 1 where it reads none.
+pub struct Values {
+    pub distance: f32,
+    pub spot: f32,
+    pub distribution0: f32,
+    pub red: f32,
+    pub green: f32,
+    pub blue: f32,
+    pub distribution1: f32,
+    pub fresnel: f32,
+}
+
+// What the sums take of a lighting: whether highlights are clamped, whether each sum is in the shadow
+// and the shadow itself, and whether fresnel sets each alpha.
+pub struct Settings {
+    pub clamp_highlights: bool,
+    pub shadow_primary: bool,
+    pub shadow_secondary: bool,
+    pub shadow: [f32; 4],
+    pub fresnel_primary: bool,
+    pub fresnel_secondary: bool,
+}
+
+// Red, green, blue and alpha of the two colours.
+pub struct Sums {
+    pub diffuse: [f32; 4],
+    pub specular: [f32; 4],
+}

@@ -1,0 +1,5 @@
+-- Facts that the functions' proofs share.
+mod Placing
+mod UnsignedPlaces
+mod Raising
+mod SignedPlaces
