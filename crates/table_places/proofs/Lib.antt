@@ -1,5 +1,4 @@
 -- Facts that the functions' proofs share.
 mod Placing
 mod UnsignedPlaces
-mod Raising
 mod SignedPlaces

@@ -17,16 +17,16 @@ use Rattle.binary32.specs.Order.{clampOf}
 use Rattle.binary32.specs.Floor.{floorPart, floorOf}
 use Rattle.binary32.specs.FloorLaws.{floor-exact, floor-below-zero}
 use Rattle.whole_parts.specs.Held.{heldOf}
-use Rattle.table_places.specs.Raised.{inSignedByte, raisedFloor}
+use Rattle.whole_parts.specs.Raised.{raisable, raisedFloor}
 use Rattle.binary32.specs.Places.{wrapped}
 use Rattle.whole_parts.specs.HeldLaws.{held-cases}
 use Rattle.binary32.specs.CastLaws.{exact}
 use Rattle.table_places.proofs.Placing.{off-plus, off-minus, test-same, above-whole}
-use Rattle.table_places.proofs.Raising.{fewer}
+use Rattle.whole_parts.specs.RaisedLaws.{fewer}
 
 -- ---- what is held is a number that `raised_floor` takes
-within : (y : Float) → lt minus128 y ≡ true → lt float127 y ≡ false → T (inSignedByte y)
-unfolding lt ofBits inSignedByte
+within : (y : Float) → lt minus128 y ≡ true → lt float127 y ≡ false → T (raisable y)
+unfolding lt ofBits raisable
 within nan p q = absurd (true≢false (sym p))
 within (inf true) p q = absurd (true≢false (sym p))
 within (inf false) p q = absurd (true≢false q)
@@ -34,21 +34,21 @@ within (fin true m e) p q = le→leb (m * up e) (128 * down e) (less (m * up e) 
   where
     less : (a d : ℕ) → a * 1 < 128 * d → a ≤ 128 * d
     less a d h = omega arith
-within (fin false m e) p q = le→leb (m * up e) (127 * down e) (less (m * up e) (down e) (ltb-false (127 * 1 * down e) (m * up e * 1) q))
+within (fin false m e) p q = le→leb (m * up e) (256 * down e) (less (m * up e) (down e) (ltb-false (127 * 1 * down e) (m * up e * 1) q))
   where
-    less : (a d : ℕ) → a * 1 ≤ 127 * 1 * d → a ≤ 127 * d
+    less : (a d : ℕ) → a * 1 ≤ 127 * 1 * d → a ≤ 256 * d
     less a d h = omega arith
 
-of-low : T (inSignedByte minus128)
-unfolding inSignedByte ofBits
+of-low : T (raisable minus128)
+unfolding raisable ofBits
 of-low = tt
 
-of-high : T (inSignedByte float127)
-unfolding inSignedByte ofBits
+of-high : T (raisable float127)
+unfolding raisable ofBits
 of-high = tt
 
-pub held-in : (y : Float) → T (inSignedByte (heldOf y minus128 float127))
-held-in y = held-cases (λ (z : Float). T (inSignedByte z)) y minus128 float127 of-low of-high (within y)
+pub held-in : (y : Float) → T (raisable (heldOf y minus128 float127))
+held-in y = held-cases (λ (z : Float). T (raisable z)) y minus128 float127 of-low of-high (within y)
 
 -- ---- the raised floor of what is held
 least : (n q : ℕ) → n ≤ q → min q n ≡ n
@@ -227,18 +227,3 @@ placed (fin false m e) p t =
 pub nan-place : (wrapped (toSigned 7 (clampOf (floorOf nan) minus128 float127)) ≡ 0) × (sub binary32 nan (clampOf (floorOf nan) minus128 float127) ≡ nan)
 unfolding toSigned clampOf floorOf lt add sub neg ofBits
 nan-place = (refl, refl)
-
--- ---- the raised floor has 24 binary digits
-bounds : (s : Bool) (P q : ℕ) → P ≤ 128 → q ≤ 127 → (8388608 ≤ cond s (12582912 - P) (12582912 + q)) × (cond s (12582912 - P) (12582912 + q) < 16777216)
-bounds true P q h k = (omega arith, omega arith)
-bounds false P q h k = (omega arith, omega arith)
-
-pub raised-bounds : (z : Float) → T (inSignedByte z) → (8388608 ≤ raisedFloor z) × (raisedFloor z < 16777216)
-unfolding inSignedByte raisedFloor
-raised-bounds nan t = absurd t
-raised-bounds (inf s) t = absurd t
-raised-bounds (fin true m e) t = bounds true (floorPart true m e) 0 (fewer (m * up e) (down e) (floorPart true m e) (down-pos e) (leb→le (m * up e) (128 * down e) t) (floor-below-zero m e .1)) (lit≤ tt)
-raised-bounds (fin false m e) t = bounds false 0 (m * up e / down e) (lit≤ tt) (le-of-suc-le-suc (div-lt-iff-lt-mul (down-pos e) .1 (less (m * up e) (down e) (down-pos e) (leb→le (m * up e) (127 * down e) t))))
-  where
-    less : (a d : ℕ) → 0 < d → a ≤ 127 * d → a < 128 * d
-    less a d p h = omega arith

@@ -1,13 +1,11 @@
 // The two places in a table of 256 entries.
 ghost use mathlib.Core.Path.{_≡_};
 ghost use Prim.Native.Nat.{_<_};
-ghost use lib.Dec.{T};
-ghost use lib.IntN.{pos};
 ghost use lib.Ieee.{binary32, minus, ofInt};
 ghost use Rattle.binary32.specs.Places.{unsignedPlaceOf, signedPlaceOf};
-ghost use Rattle.table_places.specs.Raised.{inSignedByte, raisedFloor};
 use binary32::Place;
 use whole_parts::held;
+use whole_parts::raised_floor;
 use whole_parts::whole;
 
 // a - b as a float, +0 where they are equal.
@@ -29,16 +27,6 @@ pub fn unsigned_place(x: f32) -> Place
         entry: n as u8,
         delta: y + difference(0, n),
     }
-}
-
-// 3 * 2^22 more than the floor of a number z from -128 to 127. The last digit of the sum stands for
-// 1, so the sum is rounded to a whole number, which is right or one too many.
-fn raised_floor(z: f32) -> f32
-    requires { ⌜ T (inSignedByte z) ⌝ }
-    ensures { λ r. ⌜ r ≡ ofInt binary32 (pos (raisedFloor z)) ⌝ }
-{
-    let s = z + 12582912.0;
-    if s - 12582912.0 > z { s - 1.0 } else { s }
 }
 
 // The place of x in a table over -1 to 1, whose entries for inputs below 0 follow the others. The

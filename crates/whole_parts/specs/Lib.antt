@@ -3,3 +3,5 @@ pub mod HeldLaws
 pub mod DigitLaws
 pub mod ByteLaws
 pub mod FloorDigitLaws
+pub mod Raised
+pub mod RaisedLaws

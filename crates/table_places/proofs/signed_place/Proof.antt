@@ -1,4 +1,4 @@
--- `table_places::signed_place` meets its contract: entry and delta are those of the definition, case by case (`SignedPlaces`), since the pattern of the raised floor ends in the wrapped entry (`Raising`).
+-- `table_places::signed_place` meets its contract: entry and delta are those of the definition, case by case (`SignedPlaces`), since the pattern of the raised floor ends in the wrapped entry (`RaisedLaws`).
 -- Assumes nothing.
 use mathlib.Core.Path.{_≡_, sym, ap, subst, _∙_}
 use mathlib.Core.Bool.{not}
@@ -12,12 +12,12 @@ use Rattle.binary32.specs.Numbers.{float127, float128, minus128}
 use Rattle.binary32.specs.Order.{clampOf}
 use Rattle.binary32.specs.Floor.{floorOf}
 use Rattle.whole_parts.specs.Held.{heldOf}
-use Rattle.table_places.specs.Raised.{inSignedByte, raisedFloor}
+use Rattle.whole_parts.specs.Raised.{raisable, raisedFloor}
 use Rattle.binary32.specs.Places.{wrapped, signedPlaceOf}
 use Rattle.binary32.specs.declared.Place.{Place}
 use Rattle.binary32.specs.NanLaws.{itself, differs}
-use Rattle.table_places.proofs.Raising.{big, raised-number, raised-bits, raised-off}
-use Rattle.table_places.proofs.SignedPlaces.{held-in, raised-bounds, placed, nan-place}
+use Rattle.whole_parts.specs.RaisedLaws.{big, raised-number, raised-bits, raised-off, raised-bounds}
+use Rattle.table_places.proofs.SignedPlaces.{held-in, placed, nan-place}
 use Rattle.table_places.proofs.signed_place.Statement.{statement}
 use Rattle.table_places.proofs.signed_place.Tie as tie
 
@@ -53,7 +53,7 @@ held-requires : tie.Need-held-requires
 held-requires c κs = search needs
 
 raised-floor-requires : tie.Need-raised-floor-requires
-raised-floor-requires c κs = subst (λ (z : Float). T (inSignedByte z)) (sym (held-is c)) (held-in (scaled (c .before .before)))
+raised-floor-requires c κs = subst (λ (z : Float). T (raisable z)) (sym (held-is c)) (held-in (scaled (c .before .before)))
 
 float-to-bits-t7 : tie.Need-float-to-bits-t7
 float-to-bits-t7 c = let s = c .before .before .before in subst (λ (w : Float). T (not (isNan w))) (sym (raised-is c)) (raised-number (raised s) (bounds s .1))

@@ -1,8 +1,8 @@
--- `table_places::raised_floor` meets its contract: the rounded sum is right or one too many, and the test tells which (`Raising`).
+-- `whole_parts::raised_floor` meets its contract: the rounded sum is right or one too many, and the test tells which (`RaisedLaws`).
 -- Assumes nothing.
-use Rattle.table_places.proofs.Raising.{Raised, raised}
-use Rattle.table_places.proofs.raised_floor.Statement.{statement}
-use Rattle.table_places.proofs.raised_floor.Tie as tie
+use Rattle.whole_parts.specs.RaisedLaws.{Raised, raised}
+use Rattle.whole_parts.proofs.raised_floor.Statement.{statement}
+use Rattle.whole_parts.proofs.raised_floor.Tie as tie
 
 at : (c : tie.Start) → Raised (c .args .z)
 at c = raised (c .args .z) (c .pre)

@@ -2,15 +2,15 @@
 -- its pattern is w with the exponent's field before it, and taking 3 * 2 ^ 22 off again is exact. The result is above z exactly if w is q + 1. Assumes nothing.
 use mathlib.Core.Path.{_≡_, refl, sym, ap, _∙_, subst}
 use mathlib.Core.Bool.{Bool, true, false, not, cond, true≢false}
-use Prim.Native.Nat.{ℕ, suc, _+_, _-_, _*_, _/_, _%_, _^_, _≤_, _<_, compare}
+use Prim.Native.Nat.{ℕ, suc, _+_, _-_, _*_, _/_, _%_, _^_, _≤_, _<_, compare, min}
 use native.Mathlib.Nat.{mul-one, one-mul, mul-assoc, mul-comm, mul-right-comm, mul-pos, zero-lt-suc, add-mul, add-sub-cancel, le-trans, le-of-lt, lt-of-lt-of-le, lt-of-not-le, not-le-of-lt, le-antisymm, mul-le-mul-right, mul-lt-mul-of-pos-right, lt-of-mul-lt-mul-right, le-div-iff-mul-le, div-lt-iff-lt-mul, mul-sub, mul-div-mul-right, mul-add-div-right, div-eq-of-lt-le, le-of-suc-le-suc}
 use native.Mathlib.Numerals.{add-one}
 use native.Mathlib.Omega.{arith}
 use borrow.Author.Tests.{leb-true, leb-false, ltb-true, ltb-false, le-leb, lt-leb, lt-ltb, le-ltb}
 use lib.IntN.{ℤ, pos, negsuc}
-use lib.Dec.{T, leb, ltb, leb→le, lit<, lit≤}
+use lib.Dec.{T, leb, ltb, leb→le, le→leb, ltb→lt, lit<, lit≤}
 use lib.Pow.{pow-pos, pow-mono}
-use lib.Ieee.{Float, nan, inf, fin, binary32, up, down, minus, size, nearest, units, round, neg, add, sub, below, lt, ofInt, isNan, ofFields, ofBits, toBits}
+use lib.Ieee.{Float, nan, inf, fin, binary32, up, down, minus, size, nearest, units, round, neg, add, sub, below, lt, ofInt, isNan, ofFields, ofBits, toBits, toUnsigned}
 use lib.Ieee.Bits.{ofBits-fits}
 use lib.Ieee.Digits.{size-lt, size-le}
 use lib.Ieee.Exact.{HasValue, units-val}
@@ -23,10 +23,11 @@ use Rattle.binary32.specs.WordsLaws.{word-of-float-of}
 use Rattle.binary32.specs.ValueLaws.{round-own}
 use Rattle.binary32.specs.Floor.{floorPart}
 use Rattle.binary32.specs.FloorLaws.{floor-below-zero}
-use Rattle.table_places.specs.Raised.{inSignedByte, raisedFloor}
+use Rattle.whole_parts.specs.Held.{underByte}
+use Rattle.whole_parts.specs.Raised.{raisable, raisedFloor}
 use Rattle.binary32.specs.NanLaws.{at-most-infinity}
 use Rattle.whole_parts.specs.DigitLaws.{field, same, ltb-scale, ofBits-is, fields-value}
 use Rattle.whole_parts.specs.FloorDigitLaws.{unscaled}
 
 -- ---- a fraction from 2 ^ 23 to 2 ^ 24 is rounded to a whole number
 -- its value in units of the smallest has 173 binary digits, and 149 of them are dropped
@@ -150,7 +151,7 @@ lifted s a c = cond s (12582912 * c - a) (12582912 * c + a)
 abbrev pub big : Float
 big = ofBits binary32 0x4b40_0000
 
-pub lifted-sum : (s : Bool) (m : ℕ) (e : ℤ) → m * up e ≤ cond s 128 127 * down e → add binary32 (fin s m e) big ≡ round binary32 false (lifted s (m * up e) (down e)) (down e * 1)
+pub lifted-sum : (s : Bool) (m : ℕ) (e : ℤ) → m * up e ≤ cond s 128 256 * down e → add binary32 (fin s m e) big ≡ round binary32 false (lifted s (m * up e) (down e)) (down e * 1)
 unfolding add ofBits
 lifted-sum false m e h = ap (λ (z : ℕ). round binary32 false z (down e * 1)) (turned (m * up e) (12582912 * down e))
   where
@@ -165,37 +166,37 @@ lifted-sum true m e h =
     less a c p h = omega arith
 
 -- w - 3 * 2 ^ 22 against z, by the sum's fraction: where w is 3 * 2 ^ 22 + k, and where it is k less
-against-plus : (s : Bool) (a c w k : ℕ) → 0 < c → a ≤ 128 * c → w ≡ 12582912 + k → below s a false (k * c) ≡ ltb (lifted s a c) (w * c)
+against-plus : (s : Bool) (a c w k : ℕ) → 0 < c → a ≤ 256 * c → w ≡ 12582912 + k → below s a false (k * c) ≡ ltb (lifted s a c) (w * c)
 against-plus false a c w k p h e = plus a (12582912 * c) (k * c) (w * c) (ap (λ (z : ℕ). z * c) e ∙ add-mul 12582912 k c)
   where
     plus : (a x y z : ℕ) → z ≡ x + y → ltb a y ≡ ltb (x + a) z
     plus a x y z e = same (ltb a y) (ltb (x + a) z) (λ u. lt-ltb (x + a) z (omega (arith, ltb-true a y u))) (λ u. lt-ltb a y (omega (arith, ltb-true (x + a) z u)))
 against-plus true a c w k p h e = minus a (12582912 * c) (k * c) (w * c) (most a c p h) (ap (λ (z : ℕ). z * c) e ∙ add-mul 12582912 k c)
   where
-    most : (a c : ℕ) → 0 < c → a ≤ 128 * c → a < 12582912 * c
+    most : (a c : ℕ) → 0 < c → a ≤ 256 * c → a < 12582912 * c
     most a c p h = omega arith
 
     minus : (a x y z : ℕ) → a < x → z ≡ x + y → ltb 0 (a + y) ≡ ltb (x - a) z
     minus a x y z l e = same (ltb 0 (a + y)) (ltb (x - a) z) (λ u. lt-ltb (x - a) z (omega (arith, ltb-true 0 (a + y) u))) (λ u. lt-ltb 0 (a + y) (omega (arith, ltb-true (x - a) z u)))
 
-against-minus : (s : Bool) (a c w k : ℕ) → 0 < c → a ≤ 128 * c → 12582912 ≡ w + k → below s a true (k * c) ≡ ltb (lifted s a c) (w * c)
+against-minus : (s : Bool) (a c w k : ℕ) → 0 < c → a ≤ 256 * c → 12582912 ≡ w + k → below s a true (k * c) ≡ ltb (lifted s a c) (w * c)
 against-minus false a c w k p h e = sym (le-ltb (12582912 * c + a) (w * c) (none a (12582912 * c) (k * c) (w * c) (ap (λ (z : ℕ). z * c) e ∙ add-mul w k c)))
   where
     none : (a x y z : ℕ) → x ≡ z + y → z ≤ x + a
     none a x y z e = omega arith
 against-minus true a c w k p h e = minus a (12582912 * c) (k * c) (w * c) (most a c p h) (ap (λ (z : ℕ). z * c) e ∙ add-mul w k c)
   where
-    most : (a c : ℕ) → 0 < c → a ≤ 128 * c → a < 12582912 * c
+    most : (a c : ℕ) → 0 < c → a ≤ 256 * c → a < 12582912 * c
     most a c p h = omega arith
 
     minus : (a x y z : ℕ) → a < x → x ≡ z + y → ltb y a ≡ ltb (x - a) z
     minus a x y z l e = same (ltb y a) (ltb (x - a) z) (λ u. lt-ltb (x - a) z (omega (arith, ltb-true y a u))) (λ u. lt-ltb y a (omega (arith, ltb-true (x - a) z u)))
 
-within : (s : Bool) (a c : ℕ) → a ≤ cond s 128 127 * c → a ≤ 128 * c
-within true a c h = h
-within false a c h = omega arith
+within : (s : Bool) (a c : ℕ) → a ≤ cond s 128 256 * c → a ≤ 256 * c
+within true a c h = omega arith
+within false a c h = h
 
-pub above-z : (s : Bool) (m : ℕ) (e : ℤ) (w : ℕ) → m * up e ≤ cond s 128 127 * down e → w ≤ 16777216 → lt (fin s m e) (ofInt binary32 (minus w 12582912)) ≡ ltb (lifted s (m * up e) (down e)) (w * down e)
+pub above-z : (s : Bool) (m : ℕ) (e : ℤ) (w : ℕ) → m * up e ≤ cond s 128 256 * down e → w ≤ 16777216 → lt (fin s m e) (ofInt binary32 (minus w 12582912)) ≡ ltb (lifted s (m * up e) (down e)) (w * down e)
 unfolding ofInt
 above-z s m e w h l = go (leb 12582912 w) refl
   where
@@ -226,7 +227,7 @@ fewer a c P p h l = le-of-suc-le-suc (lt-of-mul-lt-mul-right c (lt-of-lt-of-le l
     most : (a c : ℕ) → a ≤ 128 * c → a + c ≤ 129 * c
     most a c h = omega arith
 
-quotient : (s : Bool) (m : ℕ) (e : ℤ) → m * up e ≤ cond s 128 127 * down e → lifted s (m * up e) (down e) / down e ≡ raisedFloor (fin s m e)
+quotient : (s : Bool) (m : ℕ) (e : ℤ) → m * up e ≤ cond s 128 256 * down e → lifted s (m * up e) (down e) / down e ≡ raisedFloor (fin s m e)
 unfolding raisedFloor
 quotient false m e h = mul-add-div-right (down-pos e) 12582912 (m * up e)
 quotient true m e h =
@@ -257,11 +258,11 @@ one-value : HasValue (ofBits binary32 0x3f80_0000) false 1 1
 unfolding ofBits
 one-value = (refl, refl)
 
-low-enough : (s : Bool) (a c : ℕ) → 0 < c → a ≤ cond s 128 127 * c → 8388608 * (c * 1) ≤ lifted s a c
+low-enough : (s : Bool) (a c : ℕ) → 0 < c → a ≤ cond s 128 256 * c → 8388608 * (c * 1) ≤ lifted s a c
 low-enough true a c p h = omega arith
 low-enough false a c p h = omega arith
 
-high-enough : (s : Bool) (a c : ℕ) → 0 < c → a ≤ cond s 128 127 * c → lifted s a c < 16777215 * (c * 1)
+high-enough : (s : Bool) (a c : ℕ) → 0 < c → a ≤ cond s 128 256 * c → lifted s a c < 16777215 * (c * 1)
 high-enough true a c p h = omega arith
 high-enough false a c p h = omega arith
 
@@ -276,7 +277,7 @@ one-less q = ap (λ (t : Bool). cond t (pos (q + 1 - 1)) (negsuc (1 - suc (q + 1
     some : (q : ℕ) → 1 ≤ q + 1
     some q = omega arith
 
-raised-at : (s : Bool) (m : ℕ) (e : ℤ) → m * up e ≤ cond s 128 127 * down e → Raised (fin s m e)
+raised-at : (s : Bool) (m : ℕ) (e : ℤ) → m * up e ≤ cond s 128 256 * down e → Raised (fin s m e)
 unfolding ofInt
 raised-at s m e h =
     let z = fin s m e in
@@ -306,11 +307,11 @@ raised-at s m e h =
     one-more : (w q : ℕ) → w ≤ q + 1 → q < w → w ≡ q + 1
     one-more w q h l = omega arith
 
-pub raised : (z : Float) → T (inSignedByte z) → Raised z
-unfolding inSignedByte
+pub raised : (z : Float) → T (raisable z) → Raised z
+unfolding raisable
 raised nan t = absurd t
 raised (inf s) t = absurd t
-raised (fin s m e) t = raised-at s m e (leb→le (m * up e) (cond s 128 127 * down e) t)
+raised (fin s m e) t = raised-at s m e (leb→le (m * up e) (cond s 128 256 * down e) t)
 
 -- ---- the pattern of a raised floor, and what is taken off with it
 pub raised-bits : (n : ℕ) → 8388608 ≤ n → n < 16777216 → toBits binary32 (ofInt binary32 (pos n)) ≡ 1249902592 + n
@@ -339,3 +340,36 @@ no-nan (fin t m e) s a c v = tt
 pub raised-number : (n : ℕ) → n < 16777216 → T (not (isNan (ofInt binary32 (pos n))))
 unfolding ofInt
 raised-number n h = no-nan (round binary32 false n 1) false n 1 (round-whole binary32 false n (le-of-lt h))
+
+-- ---- the raised floor has 24 binary digits
+bounds : (s : Bool) (P q : ℕ) → P ≤ 128 → q ≤ 256 → (8388608 ≤ cond s (12582912 - P) (12582912 + q)) × (cond s (12582912 - P) (12582912 + q) < 16777216)
+bounds true P q h k = (omega arith, omega arith)
+bounds false P q h k = (omega arith, omega arith)
+
+pub raised-bounds : (z : Float) → T (raisable z) → (8388608 ≤ raisedFloor z) × (raisedFloor z < 16777216)
+unfolding raisable raisedFloor
+raised-bounds nan t = absurd t
+raised-bounds (inf s) t = absurd t
+raised-bounds (fin true m e) t = bounds true (floorPart true m e) 0 (fewer (m * up e) (down e) (floorPart true m e) (down-pos e) (leb→le (m * up e) (128 * down e) t) (floor-below-zero m e .1)) (lit≤ tt)
+raised-bounds (fin false m e) t = bounds false 0 (m * up e / down e) (lit≤ tt) (le-of-suc-le-suc (div-lt-iff-lt-mul (down-pos e) .1 (less (m * up e) (down e) (down-pos e) (leb→le (m * up e) (256 * down e) t))))
+  where
+    less : (a d : ℕ) → 0 < d → a ≤ 256 * d → a < 257 * d
+    less a d p h = omega arith
+
+-- ---- a number from +0 to below 256: the last eight digits of the raised floor are the whole part
+pub under-raisable : (x : Float) → T (underByte x) → T (raisable x)
+unfolding underByte raisable
+under-raisable nan t = absurd t
+under-raisable (inf s) t = absurd t
+under-raisable (fin true m e) t = absurd t
+under-raisable (fin false m e) t = le→leb (m * up e) (256 * down e) (le-of-lt (ltb→lt (m * up e) (256 * down e) t))
+
+pub under-raised : (x : Float) → T (underByte x) → (1249902592 + raisedFloor x) % 256 ≡ toUnsigned 8 x
+unfolding underByte raisedFloor toUnsigned
+under-raised nan t = absurd t
+under-raised (inf s) t = absurd t
+under-raised (fin true m e) t = absurd t
+under-raised (fin false m e) t = rest (m * up e / down e) (div-lt-iff-lt-mul (down-pos e) .1 (ltb→lt (m * up e) (256 * down e) t))
+  where
+    rest : (q : ℕ) → q < 256 → (1249902592 + (12582912 + q)) % 256 ≡ min q 255
+    rest q h = omega arith
