@@ -1,8 +1,6 @@
 // How much a surface faces a light, and what follows from that: the highlights and the geometric factor.
 ghost use mathlib.Core.Path.{_≡_};
-ghost use Rattle.shade_facing.specs.Facing.{facingOf, highlightsOf, factorBy, factorOf};
-use flags::either;
-use lighting::Light;
+ghost use Rattle.shade_facing.specs.Facing.{facingOf, highlightsOf, factorBy};
 
 pub fn facing_of(both: bool, x: f32) -> f32
     ensures { λ r. ⌜ r ≡ facingOf both x ⌝ }
@@ -24,22 +22,13 @@ pub fn highlights_of(clamp: bool, facing: f32) -> f32
     }
 }
 
-fn factor_by(facing: f32, length: f32) -> f32
+// The geometric factor, from the dot of the half vector with itself.
+pub fn factor_by(facing: f32, length: f32) -> f32
     ensures { λ r. ⌜ r ≡ factorBy facing length ⌝ }
 {
     if length == 0.0 {
         0.0
     } else {
         float_order::at_most_one(facing / length)
-    }
-}
-
-pub fn factor_of(light: Light, half: [f32; 3], facing: f32) -> f32
-    ensures { λ r. ⌜ r ≡ factorOf light half facing ⌝ }
-{
-    if either(light.geometric0, light.geometric1) {
-        factor_by(facing, vectors::dot(half, half))
-    } else {
-        1.0
     }
 }

@@ -26,19 +26,18 @@ fn length_of(v: [f32; 3]) -> f32
     root::root(vectors::dot(v, v))
 }
 
-// The way over its length stands in the branch of the root, and not after it: so the compiler never divides for a directional light.
+// Each sum, root and quotient stands in the branch that needs it: so the compiler works none of them out for a directional light.
 pub fn way_to(light: Light, view: [f32; 3]) -> Way
     ensures { λ r. ⌜ r ≡ wayTo light view ⌝ }
 {
     let position = light.position;
     let direction = light.direction;
     let distance = light.distance;
-    let offset = vectors::plus(position, view);
     if light.directional {
         if scaled(distance) {
             return Way {
                 vector: direction,
-                length: length_of(offset),
+                length: length_of(vectors::plus(position, view)),
             };
         }
         return Way {
@@ -46,6 +45,7 @@ pub fn way_to(light: Light, view: [f32; 3]) -> Way
             length: 0.0,
         };
     }
+    let offset = vectors::plus(position, view);
     let length = length_of(offset);
     Way {
         vector: vectors::over(offset, length),

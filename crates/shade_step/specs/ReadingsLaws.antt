@@ -7,6 +7,7 @@ use mathlib.Core.Path.{_≡_, refl, ap}
 use mathlib.Core.List.{List}
 use mathlib.Core.Bool.{Bool, true, false, cond, _||_, true≢false}
 use lib.Ieee.{Float}
+use Rattle.flags.specs.FlagsLaws.{neither}
 use Rattle.binary32.specs.Numbers.{float1}
 use Rattle.lighting.specs.declared.Light.{Light}
 use Rattle.lighting.specs.declared.Lookup.{Lookup}
@@ -32,10 +33,6 @@ use Rattle.shade_distance.specs.Distance.{distanceReadingBy}
 table-is : (first number : ℕ) → number < 8 → tableFor first number ≡ first + number
 unfolding tableFor
 table-is first number h = omega arith
-
-neither : (a b : Bool) → (a || b) ≡ false → (a ≡ false) × (b ≡ false)
-neither true b h = absurd (true≢false h)
-neither false b h = (refl, h)
 
 missing : (k : OptionalLookup) → present k ≡ false → k ≡ Missing
 unfolding present

@@ -42,7 +42,8 @@ fn values_of(
     shade_values::values_from(lookups, light, read, last)
 }
 
-// The sums with one light's contribution. `last` is the last slot lit.
+// The sums with one light's contribution. `last` is the last slot lit. Without tables only a geometric factor reads the half vector: made in that branch, it
+// is worked out for such a light alone.
 pub fn step(
     tables: &[u32],
     bytes: &[u8],
@@ -60,12 +61,13 @@ pub fn step(
     let view = frame.view;
     let way = shade_light::way_to(light, view);
     let vector = way.vector;
-    let toward = shade_light::toward_light(vector, frame, lookups.needs_half);
     let distance = distance_of(tables, bytes, light, way.length);
     if shade_values::reads_tables(lookups, light) {
+        let toward = shade_light::toward_light(vector, frame, lookups.needs_half);
         let values = values_of(tables, bytes, lookups, frame, toward, distance, light, last);
         shade_sums::with_light(sums, light, normal, toward, values, settings, last)
     } else {
+        let toward = shade_light::toward_light(vector, frame, lookups.needs_half);
         shade_sums::with_unread(sums, light, normal, toward, distance, settings, last)
     }
 }

@@ -3,6 +3,7 @@ ghost use mathlib.Core.Path.{_≡_};
 ghost use Rattle.shade_values.specs.Values.{unread};
 ghost use Rattle.shade_sums.specs.Sums.{shadowFor, addedOf, summedOf, withTerms, withLight};
 use flags::both;
+use flags::either;
 use lighting::Light;
 use shade_types::Settings;
 use shade_types::Sums;
@@ -49,7 +50,8 @@ fn summed(
     }
 }
 
-// Both sums with a light's terms. `last` is the last slot lit.
+// Both sums with a light's terms. `last` is the last slot lit. A light that no shadow falls on has a way of its own: its factors are the constant 1, and the
+// compiler leaves the products out.
 fn with_terms(
     sums: Sums,
     p: [f32; 3],
@@ -64,23 +66,20 @@ fn with_terms(
     let shadow = settings.shadow;
     let d = sums.diffuse;
     let s = sums.specular;
-    let diffuse = summed(
-        d,
-        p,
-        both(settings.shadow_primary, shadowed),
-        shadow,
-        both(last, settings.fresnel_primary),
-        fresnel,
-    );
-    let specular = summed(
-        s,
-        q,
-        both(settings.shadow_secondary, shadowed),
-        shadow,
-        both(last, settings.fresnel_secondary),
-        fresnel,
-    );
-    Sums { diffuse, specular }
+    let primary = both(settings.shadow_primary, shadowed);
+    let secondary = both(settings.shadow_secondary, shadowed);
+    let f = both(last, settings.fresnel_primary);
+    let g = both(last, settings.fresnel_secondary);
+    if either(primary, secondary) {
+        return Sums {
+            diffuse: summed(d, p, primary, shadow, f, fresnel),
+            specular: summed(s, q, secondary, shadow, g, fresnel),
+        };
+    }
+    Sums {
+        diffuse: summed(d, p, false, shadow, f, fresnel),
+        specular: summed(s, q, false, shadow, g, fresnel),
+    }
 }
 
 // Both sums with a light's contribution.

@@ -1,6 +1,6 @@
 // The terms of one light: what it adds to the diffuse and to the specular sum, before any shadow.
 ghost use mathlib.Core.Path.{_≡_};
-ghost use Rattle.shade_terms.specs.Terms.{diffuseOf, timesIf, specular0Of, reflectedOf, specular1Of, specularBy, specularOf};
+ghost use Rattle.shade_terms.specs.Terms.{diffuseOf, timesIf, reflectedOf, specularBy, specularOf};
 use lighting::Light;
 use shade_types::Values;
 
@@ -26,13 +26,6 @@ fn times_if(geometric: bool, v: [f32; 3], factor: f32) -> [f32; 3]
     }
 }
 
-fn specular0(light: Light, distribution: f32, factor: f32) -> [f32; 3]
-    ensures { λ r. ⌜ r ≡ specular0Of light distribution factor ⌝ }
-{
-    let s = light.specular0;
-    times_if(light.geometric0, vectors::times(s, distribution), factor)
-}
-
 fn reflected(s: [f32; 3], v: Values) -> [f32; 3]
     ensures { λ r. ⌜ r ≡ reflectedOf s v ⌝ }
 {
@@ -41,13 +34,6 @@ fn reflected(s: [f32; 3], v: Values) -> [f32; 3]
         v.distribution1 * v.green * s[1],
         v.distribution1 * v.blue * s[2],
     ]
-}
-
-fn specular1(light: Light, v: Values, factor: f32) -> [f32; 3]
-    ensures { λ r. ⌜ r ≡ specular1Of light v factor ⌝ }
-{
-    let s = light.specular1;
-    times_if(light.geometric1, reflected(s, v), factor)
 }
 
 fn specular_by(s: [f32; 3], t: [f32; 3], highlights: f32, distance: f32, spot: f32) -> [f32; 3]
@@ -60,12 +46,20 @@ fn specular_by(s: [f32; 3], t: [f32; 3], highlights: f32, distance: f32, spot: f
     ]
 }
 
+// A light with neither geometric flag has a way of its own: so the compiler works out no factor and no product with it.
 pub fn specular(light: Light, half: [f32; 3], v: Values, clamp: bool, facing: f32) -> [f32; 3]
     ensures { λ r. ⌜ r ≡ specularOf light half v clamp facing ⌝ }
 {
+    let specular0 = light.specular0;
+    let specular1 = light.specular1;
     let highlights = shade_facing::highlights_of(clamp, facing);
-    let factor = shade_facing::factor_of(light, half, facing);
-    let s = specular0(light, v.distribution0, factor);
-    let t = specular1(light, v, factor);
+    let s = vectors::times(specular0, v.distribution0);
+    let t = reflected(specular1, v);
+    if flags::either(light.geometric0, light.geometric1) {
+        let factor = shade_facing::factor_by(facing, vectors::dot(half, half));
+        let u = times_if(light.geometric0, s, factor);
+        let w = times_if(light.geometric1, t, factor);
+        return specular_by(u, w, highlights, v.distance, v.spot);
+    }
     specular_by(s, t, highlights, v.distance, v.spot)
 }

@@ -8,22 +8,25 @@ use borrow.Author.Needs.{needs}
 use Rattle.shade_light.proofs.way_to.Statement.{statement}
 use Rattle.shade_light.proofs.way_to.Tie as tie
 
-plus-requires : tie.Need-plus-requires
-plus-requires c κs = search needs
-
 scaled-requires : tie.Need-scaled-requires
 scaled-requires c κs = search needs
+
+plus-requires : tie.Need-plus-requires
+plus-requires c κs = search needs
 
 length-of-requires : tie.Need-length-of-requires
 length-of-requires c κs = search needs
 
 returns : tie.Need-returns
 unfolding wayTo lengthIf lightVector
-returns c = simp (c .length-of .ensures, c .before .before .before .before .plus .ensures, c .before .before .before .if1 .taken, sym (c .before .before .scaled .ensures) ∙ c .before .if2 .taken)
+returns c = simp (c .length-of .ensures, c .before .plus .ensures, c .before .before .before .before .if1 .taken, sym (c .before .before .before .scaled .ensures) ∙ c .before .before .if2 .taken)
 
 returns-2 : tie.Need-returns-2
 unfolding wayTo lengthIf lightVector
 returns-2 c = simp (c .before .before .if1 .taken, sym (c .before .scaled .ensures) ∙ c .if2 .left)
+
+plus-requires-2 : tie.Need-plus-requires-2
+plus-requires-2 c κs = search needs
 
 length-of-requires-2 : tie.Need-length-of-requires-2
 length-of-requires-2 c κs = search needs
@@ -33,17 +36,18 @@ over-requires c κs = search needs
 
 returns-3 : tie.Need-returns-3
 unfolding wayTo lengthIf lightVector normalizedOf
-returns-3 c = simp (c .over .ensures, c .before .length-of2 .ensures, c .before .before .before .plus .ensures, c .before .before .if1 .left)
+returns-3 c = simp (c .over .ensures, c .before .length-of2 .ensures, c .before .before .plus2 .ensures, c .before .before .before .if1 .left)
 
 pub way-to-spec : {M : Type 1} → statement M
 way-to-spec =
     tie.close
     (tie.spec
-    plus-requires
     scaled-requires
+    plus-requires
     length-of-requires
     returns
     returns-2
+    plus-requires-2
     length-of-requires-2
     over-requires
     returns-3)

@@ -13,22 +13,26 @@ use Rattle.shade_step.proofs.step.Tie as tie
 way-to-requires : tie.Need-way-to-requires
 way-to-requires c κs = search needs
 
-toward-light-requires : tie.Need-toward-light-requires
-toward-light-requires c κs = search needs
-
 distance-of-requires : tie.Need-distance-of-requires
 distance-of-requires c κs = search needs
 
 reads-tables-requires : tie.Need-reads-tables-requires
 reads-tables-requires c κs = search needs
 
+toward-light-requires : tie.Need-toward-light-requires
+toward-light-requires c κs = search needs
+
 values-of-requires : tie.Need-values-of-requires
 values-of-requires c κs =
-    let s = c .before .before .before .before .before .before .before .before .before .before in
-    (s .pre .0, s .pre .1, distance-is (given (s .args .tables .now) (s .args .bytes .now)) (s .args .light) (s .args .frame .view) _ _ (c .before .before .before .before .before .way-to .ensures) (c .before .before .distance-of .ensures))
+    let d = c .before .before .before in
+    let s = d .before .before .before .before .before .before .before in
+    (s .pre .0, s .pre .1, distance-is (given (s .args .tables .now) (s .args .bytes .now)) (s .args .light) (s .args .frame .view) _ _ (d .before .before .way-to .ensures) (d .distance-of .ensures))
 
 with-light-requires : tie.Need-with-light-requires
 with-light-requires c κs = search needs
+
+toward-light-requires-2 : tie.Need-toward-light-requires-2
+toward-light-requires-2 c κs = search needs
 
 with-unread-requires : tie.Need-with-unread-requires
 with-unread-requires c κs = search needs
@@ -36,19 +40,21 @@ with-unread-requires c κs = search needs
 returns : tie.Need-returns
 unfolding stepOf
 returns c =
-    let s = c .before .before .before .before .before .before .before .before .before .before .before .before in
+    let d = c .before .before .before .before .before in
+    let s = d .before .before .before .before .before .before .before in
     simp
-    (c .with-light .ensures, c .before .values-of .ensures, toward-is (s .args .light) (s .args .frame) (s .args .lookups .«needs_half») _ _ (c .before .before .before .before .before .before .before .way-to .ensures) (c .before .before .before .before .before .toward-light .ensures))
+    (c .with-light .ensures, c .before .values-of .ensures, toward-is (s .args .light) (s .args .frame) (s .args .lookups .«needs_half») _ _ (d .before .before .way-to .ensures) (c .before .before .toward-light .ensures))
 
 returns-2 : tie.Need-returns-2
 unfolding stepOf
 returns-2 c =
-    let s = c .before .before .before .before .before .before .before .before .before .before .before in
+    let d = c .before .before .before .before in
+    let s = d .before .before .before .before .before .before .before in
     simp (
       c .with-unread .ensures,
-      toward-is (s .args .light) (s .args .frame) (s .args .lookups .«needs_half») _ _ (c .before .before .before .before .before .before .way-to .ensures) (c .before .before .before .before .toward-light .ensures),
-      distance-is (given (s .args .tables .now) (s .args .bytes .now)) (s .args .light) (s .args .frame .view) _ _ (c .before .before .before .before .before .before .way-to .ensures) (c .before .before .before .distance-of .ensures),
-      read-none (given (s .args .tables .now) (s .args .bytes .now)) (s .args .lookups) (s .args .frame) (towardOf (s .args .light) (s .args .frame) (s .args .lookups .«needs_half»)) (s .args .light) (s .args .last) (s .pre .1) (sym (c .before .before .reads-tables .ensures) ∙ c .before .if1 .left),
+      toward-is (s .args .light) (s .args .frame) (s .args .lookups .«needs_half») _ _ (d .before .before .way-to .ensures) (c .before .toward-light2 .ensures),
+      distance-is (given (s .args .tables .now) (s .args .bytes .now)) (s .args .light) (s .args .frame .view) _ _ (d .before .before .way-to .ensures) (d .distance-of .ensures),
+      read-none (given (s .args .tables .now) (s .args .bytes .now)) (s .args .lookups) (s .args .frame) (towardOf (s .args .light) (s .args .frame) (s .args .lookups .«needs_half»)) (s .args .light) (s .args .last) (s .pre .1) (sym (c .before .before .before .reads-tables .ensures) ∙ c .before .before .if1 .left),
     )
 
 pub step-spec : {M : Type 1} → statement M
@@ -56,11 +62,12 @@ step-spec =
     tie.close
     (tie.spec
     way-to-requires
-    toward-light-requires
     distance-of-requires
     reads-tables-requires
+    toward-light-requires
     values-of-requires
     with-light-requires
+    toward-light-requires-2
     with-unread-requires
     returns
     returns-2)
