@@ -67,6 +67,10 @@ every-one (suc n) p i h k = go (eqb i n) refl (λ m. every-one n p i (both-first
     go true e r = ap p (eqb-true i n e) ∙ both-second (every n p) (p n) h
     go false e r = let ne : i ≡ n → ⊥ = eqb-false i n e in r (omega arith)
 
+-- one that fails fails them all
+pub every-bad : (n : ℕ) (p : ℕ → Bool) (i : ℕ) → i < n → p i ≡ false → every n p ≡ false
+every-bad n p i k e = same-bool (every n p) false (λ a. sym e ∙ every-one n p i a k) never
+
 pub every-of : (n : ℕ) (p : ℕ → Bool) → ((i : ℕ) → i < n → p i ≡ true) → every n p ≡ true
 unfolding every
 every-of zero p f = refl

@@ -3,7 +3,6 @@ use Prim.Native.Nat.{ℕ, _-_, _*_, _≤_}
 use mathlib.Core.Path.{_≡_, refl, sym, ap, _∙_}
 use mathlib.Core.Bool.{Bool, true, false, not}
 use mathlib.Core.List.{List}
-use lib.Dec.{eqb}
 use lib.ListN.{length}
 use borrow.Author.Tests.{eq-eqb, ne-eqb, not-true, not-false}
 use Rattle.block.specs.declared.BlockForm.the-variants.{NotWellFormed}
@@ -23,24 +22,18 @@ unfolding blockForm
 unsized b n e h = rw (ne-eqb (length b) 328 (λ k. h (e ∙ k))) refl
 
 -- a test by what a function found, and by the branch that was taken
-none : (r : ℕ) (p : Bool) → eqb r 0 ≡ p → r ≡ 0 → p ≡ true
-none r p e h = sym e ∙ eq-eqb r 0 h
-
-some : (r : ℕ) (p : Bool) → eqb r 0 ≡ p → (r ≡ 0 → ⊥) → p ≡ false
-some r p e h = sym e ∙ ne-eqb r 0 h
-
 holds : (r p : Bool) → r ≡ p → not r ≡ false → p ≡ true
 holds r p e h = sym e ∙ not-false r h
 
 lacks : (r p : Bool) → r ≡ p → not r ≡ true → p ≡ false
 lacks r p e h = sym e ∙ not-true r h
 
--- n is the count, u what the unused slots were found to be, h and l whether the head and the lights are formed
-module _ (w : ℕ → ℕ) (n : ℕ) (told : n ≡ w 1) (lit : w 1 ≡ 0 → ⊥) (few : w 1 ≤ 8) (u : ℕ) (unused : eqb u 0 ≡ zeros w (slotAt n) (36 * (8 - n))) where
-  pub by-unused : (u ≡ 0 → ⊥) → NotWellFormed ≡ formOf w
-  by-unused k = sym (unused-words w lit few (rw told at (some u (zeros w (slotAt n) (36 * (8 - n))) unused k)))
+-- n is the count; u, h and l are whether the unused slots are zero, and the head and the lights formed
+module _ (w : ℕ → ℕ) (n : ℕ) (told : n ≡ w 1) (lit : w 1 ≡ 0 → ⊥) (few : w 1 ≤ 8) (u : Bool) (unused : u ≡ zeros w (slotAt n) (36 * (8 - n))) where
+  pub by-unused : not u ≡ true → NotWellFormed ≡ formOf w
+  by-unused k = sym (unused-words w lit few (rw told at (lacks u (zeros w (slotAt n) (36 * (8 - n))) unused k)))
 
-  module _ (clear : u ≡ 0) (h : Bool) (head : h ≡ headFormed w) where
+  module _ (clear : not u ≡ false) (h : Bool) (head : h ≡ headFormed w) where
     pub by-head : not h ≡ true → NotWellFormed ≡ formOf w
     by-head k = sym (bad-head w lit few (lacks h (headFormed w) head k))
 
@@ -52,6 +45,6 @@ module _ (w : ℕ → ℕ) (n : ℕ) (told : n ≡ w 1) (lit : w 1 ≡ 0 → ⊥
       by-shape k =
           ap (λ (m : ℕ). floatsForm w m) told
           ∙ by-floats w lit few
-          (rw told at (none u (zeros w (slotAt n) (36 * (8 - n))) unused clear))
+          (rw told at (holds u (zeros w (slotAt n) (36 * (8 - n))) unused clear))
           (holds h (headFormed w) head good)
           (rw told at (holds l (lightsFormed w n) lights k))

@@ -5,8 +5,8 @@ use floats_check::floats_form;
 use head_check::head_formed;
 use lights_check::lights_formed;
 use sources::word;
-use zeros_check::all_mixed;
-use zeros_check::unused;
+use zeros_check::are_zero;
+use zeros_check::unused_are_zero;
 ghost use mathlib.Core.Path.{_≡_};
 ghost use Prim.Native.Nat.{_≤_};
 ghost use lib.ListN.{length};
@@ -22,7 +22,7 @@ pub fn form(block: &[u32], bytes: &[u8]) -> BlockForm
         return BlockForm::NotWellFormed;
     }
     if word(block, bytes, 1) == 0 {
-        if all_mixed(block, bytes) == 0 {
+        if are_zero(block, bytes, 0, 328) {
             return BlockForm::Off;
         }
         return BlockForm::NotWellFormed;
@@ -39,7 +39,7 @@ fn lit_form(block: &[u32], bytes: &[u8]) -> BlockForm
     ensures { λ r. ⌜ r ≡ formOf (words (given (now (block .entry)) (now (bytes .entry)))) ⌝ }
 {
     let count = word(block, bytes, 1) as usize;
-    if unused(block, bytes, count) != 0 {
+    if !unused_are_zero(block, bytes, count) {
         return BlockForm::NotWellFormed;
     }
     if !head_formed(block, bytes) {

@@ -1,7 +1,8 @@
-// The head of a block: its settings, its seven lookups without a branch for each, and its padding.
+// The head of a block: its settings, its seven lookups, and its padding.
 use block::scale_formed;
 use settings_check::settings_formed;
 use sources::word;
+use zeros_check::are_zero;
 ghost use mathlib.Core.Path.{_≡_};
 ghost use Prim.Native.Nat.{_+_, _≤_};
 ghost use lib.ListN.{length};
@@ -9,7 +10,8 @@ ghost use Rattle.sources.specs.Sources.{given};
 ghost use Rattle.block.specs.Formed.{words, from as fromOf};
 ghost use Rattle.head_check.specs.Head.{lookupFormed, lookupsFormed, headFormed};
 
-fn lookup_formed(block: &[u32], bytes: &[u8], at: usize) -> bool
+// A lookup by each of its four words.
+fn present_formed(block: &[u32], bytes: &[u8], at: usize) -> bool
     requires { ⌜ (length (given (now block) (now bytes)) ≡ 328) × (at + 4 ≤ 328) ⌝ }
     ensures { λ r. ⌜ r ≡ lookupFormed (fromOf (words (given (now (block .entry)) (now (bytes .entry)))) at) ⌝ }
 {
@@ -24,17 +26,29 @@ fn lookup_formed(block: &[u32], bytes: &[u8], at: usize) -> bool
         & ((here == 1) | ((input == 0) & (absolute == 0) & (scale == 0)))
 }
 
+// The words of a missing lookup are all zero, and are not looked at one by one.
+fn lookup_formed(block: &[u32], bytes: &[u8], at: usize) -> bool
+    requires { ⌜ (length (given (now block) (now bytes)) ≡ 328) × (at + 4 ≤ 328) ⌝ }
+    ensures { λ r. ⌜ r ≡ lookupFormed (fromOf (words (given (now (block .entry)) (now (bytes .entry)))) at) ⌝ }
+{
+    if are_zero(block, bytes, at, 4) {
+        return true;
+    }
+    present_formed(block, bytes, at)
+}
+
 fn lookups_formed(block: &[u32], bytes: &[u8]) -> bool
     requires { ⌜ length (given (now block) (now bytes)) ≡ 328 ⌝ }
     ensures { λ r. ⌜ r ≡ lookupsFormed (words (given (now (block .entry)) (now (bytes .entry)))) 7 ⌝ }
 {
-    let mut formed = true;
     let mut k = 0;
     while k < 7 {
-        formed = formed & lookup_formed(block, bytes, 8 + 4 * k);
+        if !lookup_formed(block, bytes, 8 + 4 * k) {
+            return false;
+        }
         k += 1;
     }
-    formed
+    true
 }
 
 pub fn head_formed(block: &[u32], bytes: &[u8]) -> bool

@@ -5,21 +5,7 @@ ghost use Prim.Native.Nat.{_+_, _-_, _*_, _≤_};
 ghost use lib.Dec.{eqb};
 ghost use lib.ListN.{length};
 ghost use Rattle.sources.specs.Sources.{given};
-ghost use Rattle.block.specs.Formed.{words, slotAt, zeros, allZero};
-
-// All words of a block, put together.
-pub fn all_mixed(block: &[u32], bytes: &[u8]) -> u32
-    requires { ⌜ length (given (now block) (now bytes)) ≡ 328 ⌝ }
-    ensures { λ r. ⌜ eqb r 0 ≡ allZero (words (given (now (block .entry)) (now (bytes .entry)))) ⌝ }
-{
-    let mut bits = 0u32;
-    let mut k = 0;
-    while k < 328 {
-        bits = bits | word(block, bytes, k);
-        k += 1;
-    }
-    bits
-}
+ghost use Rattle.block.specs.Formed.{words, slotAt, zeros};
 
 // `count` words from `from` on, put together: 0 exactly if each is.
 fn mixed(block: &[u32], bytes: &[u8], from: usize, count: usize) -> u32
@@ -35,10 +21,18 @@ fn mixed(block: &[u32], bytes: &[u8], from: usize, count: usize) -> u32
     bits
 }
 
-// The words of the slots beyond the count, put together.
-pub fn unused(block: &[u32], bytes: &[u8], count: usize) -> u32
+// Whether the `count` words from `from` on are zero.
+pub fn are_zero(block: &[u32], bytes: &[u8], from: usize, count: usize) -> bool
+    requires { ⌜ (length (given (now block) (now bytes)) ≡ 328) × (from + count ≤ 328) ⌝ }
+    ensures { λ r. ⌜ r ≡ zeros (words (given (now (block .entry)) (now (bytes .entry)))) from count ⌝ }
+{
+    mixed(block, bytes, from, count) == 0
+}
+
+// Whether the words of the slots beyond the count are zero.
+pub fn unused_are_zero(block: &[u32], bytes: &[u8], count: usize) -> bool
     requires { ⌜ (length (given (now block) (now bytes)) ≡ 328) × (count ≤ 8) ⌝ }
-    ensures { λ r. ⌜ eqb r 0 ≡ zeros (words (given (now (block .entry)) (now (bytes .entry)))) (slotAt count) (36 * (8 - count)) ⌝ }
+    ensures { λ r. ⌜ r ≡ zeros (words (given (now (block .entry)) (now (bytes .entry)))) (slotAt count) (36 * (8 - count)) ⌝ }
 {
     let mut bits = 0u32;
     let mut s = count;
@@ -46,5 +40,5 @@ pub fn unused(block: &[u32], bytes: &[u8], count: usize) -> u32
         bits = bits | mixed(block, bytes, 40 + 36 * s, 36);
         s += 1;
     }
-    bits
+    bits == 0
 }

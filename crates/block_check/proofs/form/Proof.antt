@@ -2,9 +2,8 @@
 use mathlib.Core.Path.{sym, _∙_}
 use Prim.Native.Nat.{_<_}
 use native.Mathlib.Omega.{arith}
-use borrow.Author.Tests.{eq-eqb, ne-eqb}
 use Rattle.sources.specs.Sources.{given}
-use Rattle.block.specs.Formed.{words}
+use Rattle.block.specs.Formed.{words, allZero}
 use Rattle.block_check.proofs.Forms.{all-zero, not-zero, many}
 use Rattle.block_check.proofs.Answers.{sized, unsized}
 use borrow.Author.Needs.{needs}
@@ -20,19 +19,21 @@ returns c = let s = c .before .before .before .before in unsized (given (s .args
 word-requires : tie.Need-word-requires
 word-requires c κs = search needs
 
-all-mixed-requires : tie.Need-all-mixed-requires
-all-mixed-requires c κs = search needs
+are-zero-requires : tie.Need-are-zero-requires
+are-zero-requires c κs = search needs
 
 returns-2 : tie.Need-returns-2
+unfolding allZero
 returns-2 c =
     let s = c .before .before .before .before .before .before .before .before in
-    sym (all-zero (words (given (s .args .block .now) (s .args .bytes .now))) (sym (c .before .all-mixed .ensures) ∙ eq-eqb (c .before .all-mixed .result) 0 (c .if3 .taken)))
+    sym (all-zero (words (given (s .args .block .now) (s .args .bytes .now))) (sym (c .before .are-zero .ensures) ∙ c .if3 .taken))
     ∙ sized (given (s .args .block .now) (s .args .bytes .now)) _ (c .before .before .before .before .before .count .ensures) (c .before .before .before .before .if1 .left)
 
 returns-3 : tie.Need-returns-3
+unfolding allZero
 returns-3 c =
     let s = c .before .before .before .before .before .before .before .before in
-    sym (not-zero (words (given (s .args .block .now) (s .args .bytes .now))) (sym (c .before .before .before .word .ensures) ∙ c .before .before .if2 .taken) (sym (c .before .all-mixed .ensures) ∙ ne-eqb (c .before .all-mixed .result) 0 (c .if3 .left)))
+    sym (not-zero (words (given (s .args .block .now) (s .args .bytes .now))) (sym (c .before .before .before .word .ensures) ∙ c .before .before .if2 .taken) (sym (c .before .are-zero .ensures) ∙ c .if3 .left))
     ∙ sized (given (s .args .block .now) (s .args .bytes .now)) _ (c .before .before .before .before .before .count .ensures) (c .before .before .before .before .if1 .left)
 
 word-requires-2 : tie.Need-word-requires-2
@@ -58,7 +59,7 @@ form-spec =
     count-requires
     returns
     word-requires
-    all-mixed-requires
+    are-zero-requires
     returns-2
     returns-3
     word-requires-2

@@ -13,14 +13,14 @@ word-requires c κs = search needs
 cast-count : tie.Need-cast-count
 cast-count c = search needs
 
-unused-requires : tie.Need-unused-requires
-unused-requires c κs = search needs
+unused-are-zero-requires : tie.Need-unused-are-zero-requires
+unused-are-zero-requires c κs = search needs
 
 returns : tie.Need-returns
 returns c =
     let s = c .before .before .before .before .before in
     by-unused (words (given (s .args .block .now) (s .args .bytes .now))) _ (c .before .before .word .ensures) (s .pre .1) (s .pre .2)
-    _ (c .before .unused .ensures) (c .if1 .taken)
+    _ (c .before .unused-are-zero .ensures) (c .if1 .taken)
 
 head-formed-requires : tie.Need-head-formed-requires
 head-formed-requires c κs = search needs
@@ -29,7 +29,7 @@ returns-2 : tie.Need-returns-2
 returns-2 c =
     let s = c .before .before .before .before .before .before .before in
     by-head (words (given (s .args .block .now) (s .args .bytes .now))) _ (c .before .before .before .before .word .ensures) (s .pre .1) (s .pre .2)
-    _ (c .before .before .before .unused .ensures) (c .before .before .if1 .left) _ (c .before .head-formed .ensures) (c .if2 .taken)
+    _ (c .before .before .before .unused-are-zero .ensures) (c .before .before .if1 .left) _ (c .before .head-formed .ensures) (c .if2 .taken)
 
 lights-formed-requires : tie.Need-lights-formed-requires
 lights-formed-requires c κs = search needs
@@ -38,7 +38,7 @@ returns-3 : tie.Need-returns-3
 returns-3 c =
     let s = c .before .before .before .before .before .before .before .before .before in
     by-lights (words (given (s .args .block .now) (s .args .bytes .now))) _ (c .before .before .before .before .before .before .word .ensures) (s .pre .1) (s .pre .2)
-    _ (c .before .before .before .before .before .unused .ensures) (c .before .before .before .before .if1 .left) _ (c .before .before .before .head-formed .ensures) (c .before .before .if2 .left) _ (c .before .lights-formed .ensures) (c .if3 .taken)
+    _ (c .before .before .before .before .before .unused-are-zero .ensures) (c .before .before .before .before .if1 .left) _ (c .before .before .before .head-formed .ensures) (c .before .before .if2 .left) _ (c .before .lights-formed .ensures) (c .if3 .taken)
 
 floats-form-requires : tie.Need-floats-form-requires
 floats-form-requires c κs = search needs
@@ -48,7 +48,7 @@ returns-4 c =
     let s = c .before .before .before .before .before .before .before .before .before .before in
     c .floats-form .ensures
     ∙ by-shape (words (given (s .args .block .now) (s .args .bytes .now))) _ (c .before .before .before .before .before .before .before .word .ensures) (s .pre .1) (s .pre .2)
-    _ (c .before .before .before .before .before .before .unused .ensures) (c .before .before .before .before .before .if1 .left) _ (c .before .before .before .before .head-formed .ensures) (c .before .before .before .if2 .left) _ (c .before .before .lights-formed .ensures) (c .before .if3 .left)
+    _ (c .before .before .before .before .before .before .unused-are-zero .ensures) (c .before .before .before .before .before .if1 .left) _ (c .before .before .before .before .head-formed .ensures) (c .before .before .before .if2 .left) _ (c .before .before .lights-formed .ensures) (c .before .if3 .left)
 
 pub lit-form-spec : {M : Type 1} → statement M
 lit-form-spec =
@@ -56,7 +56,7 @@ lit-form-spec =
     (tie.spec
     word-requires
     cast-count
-    unused-requires
+    unused-are-zero-requires
     returns
     head-formed-requires
     returns-2

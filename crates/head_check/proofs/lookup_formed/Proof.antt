@@ -1,50 +1,36 @@
--- `head_check::lookup_formed` meets its contract: it is the definition, of the words that are read. Assumes nothing.
-use mathlib.Core.Path.{refl}
+-- `head_check::lookup_formed` meets its contract: four words of zero are a missing lookup's, and any others are tested one by one. Assumes nothing.
+use Prim.Native.Nat.{ℕ, _+_}
 use native.Mathlib.Nat.{add-zero}
-use Rattle.block.specs.Formed.{zeros, every}
+use mathlib.Core.Path.{_≡_, refl, sym, ap, _∙_}
+use mathlib.Core.Bool.{true}
+use lib.Dec.{lit<}
+use Rattle.sources.specs.Sources.{given}
+use Rattle.block.specs.Formed.{words, from, every, zeros, scaleFormed}
+use Rattle.block.specs.WordLaws.{zero-at}
 use Rattle.head_check.specs.Head.{lookupFormed}
 use borrow.Author.Needs.{needs}
 use Rattle.head_check.proofs.lookup_formed.Statement.{statement}
 use Rattle.head_check.proofs.lookup_formed.Tie as tie
 
-word-requires : tie.Need-word-requires
-word-requires c κs = search needs
+missing : (w : ℕ → ℕ) (at : ℕ) → zeros w at 4 ≡ true → lookupFormed (from w at) ≡ true
+unfolding lookupFormed zeros every scaleFormed
+missing w at h =
+    rw (← zero-at w at 4 0 h (lit< tt), ← zero-at w at 4 1 h (lit< tt), ← zero-at w at 4 2 h (lit< tt), ← zero-at w at 4 3 h (lit< tt)) refl
 
-add-word : tie.Need-add-word
-add-word c = search needs
-
-word-requires-2 : tie.Need-word-requires-2
-word-requires-2 c κs = search needs
-
-add-word-2 : tie.Need-add-word-2
-add-word-2 c = search needs
-
-word-requires-3 : tie.Need-word-requires-3
-word-requires-3 c κs = search needs
-
-add-word-3 : tie.Need-add-word-3
-add-word-3 c = search needs
-
-word-requires-4 : tie.Need-word-requires-4
-word-requires-4 c κs = search needs
-
-scale-formed-requires : tie.Need-scale-formed-requires
-scale-formed-requires c κs = search needs
+are-zero-requires : tie.Need-are-zero-requires
+are-zero-requires c κs = search needs
 
 returns : tie.Need-returns
-unfolding lookupFormed zeros every
-returns c = rw (add-zero (c .before .before .before .before .before .before .before .args .at), c .scale-formed .ensures, c .before .word4 .ensures, c .before .before .word3 .ensures, c .before .before .before .word2 .ensures, c .before .before .before .before .word .ensures) refl
+returns c =
+    let a = c .before .before .before .before .args in
+    sym (missing (words (given (a .block .now) (a .bytes .now))) (a .at) (sym (c .before .are-zero .ensures) ∙ c .if1 .taken))
+
+present-formed-requires : tie.Need-present-formed-requires
+present-formed-requires c κs = search needs
+
+returns-2 : tie.Need-returns-2
+returns-2 c = c .present-formed .ensures
 
 pub lookup-formed-spec : {M : Type 1} → statement M
 lookup-formed-spec =
-    tie.close
-    (tie.spec
-    word-requires
-    add-word
-    word-requires-2
-    add-word-2
-    word-requires-3
-    add-word-3
-    word-requires-4
-    scale-formed-requires
-    returns)
+    tie.close (tie.spec are-zero-requires returns present-formed-requires returns-2)

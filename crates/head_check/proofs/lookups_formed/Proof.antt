@@ -1,21 +1,29 @@
--- `head_check::lookups_formed` meets its contract. The loop's invariant: what is kept is the test of the first k lookups. Assumes nothing.
-use mathlib.Core.Path.{_≡_, refl, ap}
-use Prim.Native.Nat.{_≤_, _-_}
+-- `head_check::lookups_formed` meets its contract. The loop's invariant: the first k lookups are formed, so that a lookup that is not is the first of
+-- those, and the test of all of them fails where that of one does. Assumes nothing.
+use mathlib.Core.Path.{_≡_, refl, sym, _∙_}
+use Prim.Native.Nat.{ℕ, _≤_, _<_, _-_}
 use native.Mathlib.Numerals.{add-one}
 use native.Mathlib.Omega.{arith}
-use mathlib.Core.Bool.{Bool, _&&_}
+use mathlib.Core.Bool.{true, false}
+use borrow.Author.Tests.{not-true, not-false}
 use Rattle.sources.specs.Sources.{given}
-use Rattle.block.specs.Formed.{words, every}
-use Rattle.head_check.specs.Head.{lookupsFormed}
+use Rattle.block.specs.Formed.{words, from, lookupAt, every}
+use Rattle.block.specs.TestLaws.{_also_, every-bad}
+use Rattle.head_check.specs.Head.{lookupFormed, lookupsFormed}
 use borrow.Author.Needs.{needs}
 use Rattle.head_check.proofs.lookups_formed.Statement.{statement}
 use Rattle.head_check.proofs.lookups_formed.Tie as tie
 
+-- one lookup that is not formed
+one-bad : (w : ℕ → ℕ) (k : ℕ) → k < 7 → lookupFormed (from w (lookupAt k)) ≡ false → lookupsFormed w 7 ≡ false
+unfolding lookupsFormed
+one-bad w k h e = every-bad 7 (λ j. lookupFormed (from w (lookupAt j))) k h e
+
 abbrev Inv-loop : tie.InvT-loop
-Inv-loop block bytes formed₀ k₀ formed k = (k ≤ 7) × (formed ≡ lookupsFormed (words (given block bytes)) k)
+Inv-loop block bytes k₀ k = (k ≤ 7) × (lookupsFormed (words (given block bytes)) k ≡ true)
 
 abbrev μ-loop : tie.MeasureT-loop
-μ-loop block bytes formed₀ k₀ formed k = 7 - k
+μ-loop block bytes k₀ k = 7 - k
 
 loop-holds : tie.Need-loop-holds Inv-loop μ-loop
 unfolding lookupsFormed every
@@ -30,6 +38,12 @@ add-lookup-formed c = search needs
 lookup-formed-requires : tie.Need-lookup-formed-requires Inv-loop μ-loop
 lookup-formed-requires c κs = (c .before .before .before .before .pre, omega arith)
 
+returns : tie.Need-returns Inv-loop μ-loop
+returns c =
+    let a = c .before .before .before .before .before .before .args in
+    let l = c .before .before .before .loop in
+    sym (one-bad (words (given (a .block .now) (a .bytes .now))) (l .k) (omega arith) (sym (c .before .lookup-formed .ensures) ∙ not-true (c .before .lookup-formed .result) (c .if1 .taken)))
+
 add-k : tie.Need-add-k Inv-loop μ-loop
 add-k c = search needs
 
@@ -38,10 +52,10 @@ loop-less c = search needs
 
 loop-again : tie.Need-loop-again Inv-loop μ-loop
 unfolding lookupsFormed every
-loop-again c = (omega arith, rw (add-one, ← c .lookup-formed .ensures) (ap (λ (x : Bool). x && c .lookup-formed .result) (c .before .before .loop .inv .1)))
+loop-again c = (omega arith, rw add-one (c .before .before .before .loop .inv .1 also (sym (c .before .lookup-formed .ensures) ∙ not-false (c .before .lookup-formed .result) (c .if1 .left))))
 
-returns : tie.Need-returns Inv-loop μ-loop
-returns c = let e : c .before .loop .k ≡ 7 = omega arith in rw e at (c .before .loop .inv .1)
+returns-2 : tie.Need-returns-2 Inv-loop μ-loop
+returns-2 c = let e : c .before .loop .k ≡ 7 = omega arith in sym (rw e at (c .before .loop .inv .1))
 
 pub lookups-formed-spec : {M : Type 1} → statement M
 lookups-formed-spec =
@@ -53,7 +67,8 @@ lookups-formed-spec =
     mul-lookup-formed
     add-lookup-formed
     lookup-formed-requires
+    returns
     add-k
     loop-less
     loop-again
-    returns)
+    returns-2)

@@ -8,7 +8,7 @@ use mathlib.Core.Bool.{true, false, not}
 use borrow.Author.Tests.{not-true, not-false}
 use Rattle.sources.specs.Sources.{given}
 use Rattle.block.specs.Formed.{words, from, slotAt, every}
-use Rattle.block.specs.TestLaws.{never, same-bool, _also_, every-one}
+use Rattle.block.specs.TestLaws.{_also_, every-bad}
 use Rattle.lights_check.specs.Lit.{lightFormed, lightsFormed}
 use borrow.Author.Needs.{needs}
 use Rattle.lights_check.proofs.lights_formed.Statement.{statement}
@@ -17,7 +17,7 @@ use Rattle.lights_check.proofs.lights_formed.Tie as tie
 -- one slot that is not formed
 one-bad : (w : ℕ → ℕ) (n s : ℕ) → s < n → lightFormed (from w (slotAt s)) ≡ false → lightsFormed w n ≡ false
 unfolding lightsFormed
-one-bad w n s h e = same-bool (every n (λ k. lightFormed (from w (slotAt k)))) false (λ a. sym e ∙ every-one n (λ k. lightFormed (from w (slotAt k))) s a h) never
+one-bad w n s h e = every-bad n (λ k. lightFormed (from w (slotAt k))) s h e
 
 abbrev Inv-loop : tie.InvT-loop
 Inv-loop block bytes count s₀ s = (s ≤ count) × (lightsFormed (words (given block bytes)) s ≡ true)

@@ -1,4 +1,4 @@
--- `zeros_check::unused` meets its contract. The loop's invariant: the OR of the slots from the count to s is zero exactly if their words are.
+-- `zeros_check::unused_are_zero` meets its contract. The loop's invariant: the OR of the slots from the count to s is zero exactly if their words are.
 -- Assumes nothing.
 use mathlib.Core.Path.{_≡_, refl}
 use Prim.Native.Nat.{_+_, _*_, _≤_, _-_}
@@ -8,8 +8,8 @@ use Rattle.sources.specs.Sources.{given}
 use Rattle.block.specs.Formed.{words, slotAt, every, zeros}
 use Rattle.zeros_check.specs.ZerosLaws.{or-more, zeros-more}
 use borrow.Author.Needs.{needs}
-use Rattle.zeros_check.proofs.unused.Statement.{statement}
-use Rattle.zeros_check.proofs.unused.Tie as tie
+use Rattle.zeros_check.proofs.unused_are_zero.Statement.{statement}
+use Rattle.zeros_check.proofs.unused_are_zero.Tie as tie
 
 abbrev Inv-loop : tie.InvT-loop
 Inv-loop block bytes count bits₀ s₀ bits s = (count ≤ s) × (s ≤ 8) × (eqb bits 0 ≡ zeros (words (given block bytes)) (slotAt count) (36 * (s - count)))
@@ -48,8 +48,8 @@ loop-again c =
 returns : tie.Need-returns Inv-loop μ-loop
 returns c = let e : c .before .loop .s ≡ 8 = omega arith in rw e at (c .before .loop .inv .2)
 
-pub unused-spec : {M : Type 1} → statement M
-unused-spec =
+pub unused-are-zero-spec : {M : Type 1} → statement M
+unused-are-zero-spec =
     tie.close
     (tie.spec
     Inv-loop
