@@ -79,9 +79,8 @@ pub fn shade_fragment(lighting: Lighting, tables: &[u32], fragment: &[u32], answ
     ensures { λ _. ⌜ now (answer .exit) ≡ eightOf lighting (now (tables .entry)) (now (fragment .entry)) ⌝ }
 {
     let none = [0u8; 0];
-    let quaternion = fragments::quaternion_of(fragment, &none);
-    let view = fragments::view_of(fragment, &none);
-    let texels = fragments::texels_of(fragment, &none);
-    let k = shading::shaded(lighting, tables, &none, quaternion, view, texels);
-    answer_words::put(answer, k);
+    answer_words::put(
+        answer,
+        slot_shading::shade_read(lighting, tables, &none, fragment, &none),
+    );
 }

@@ -3,7 +3,7 @@ ghost use mathlib.Core.Path.{_≡_};
 ghost use Prim.Native.Nat.{_+_, _≤_, _<_};
 ghost use lib.ListN.{length};
 ghost use Rattle.sources.specs.Sources.{given};
-ghost use Rattle.fragments.specs.Fragment.{floatAt, fourAt, quaternionOf, viewOf, texelsOf, texelAt};
+ghost use Rattle.fragments.specs.Fragment.{floatAt, fourAt, quaternionOf, viewOf, texelAt};
 
 fn float_at(words: &[u32], bytes: &[u8], i: usize) -> f32
     requires { ⌜ i < length (given (now words) (now bytes)) ⌝ }
@@ -48,16 +48,4 @@ pub fn texel_at(words: &[u32], bytes: &[u8], unit: usize) -> [f32; 4]
     ensures { λ r. ⌜ r ≡ texelAt (given (now (words .entry)) (now (bytes .entry))) unit ⌝ }
 {
     four_at(words, bytes, 7 + 4 * unit)
-}
-
-pub fn texels_of(words: &[u32], bytes: &[u8]) -> [[f32; 4]; 4]
-    requires { ⌜ length (given (now words) (now bytes)) ≡ 23 ⌝ }
-    ensures { λ r. ⌜ r ≡ texelsOf (given (now (words .entry)) (now (bytes .entry))) ⌝ }
-{
-    [
-        four_at(words, bytes, 7),
-        four_at(words, bytes, 11),
-        four_at(words, bytes, 15),
-        four_at(words, bytes, 19),
-    ]
 }

@@ -12,8 +12,14 @@ use refusals::Outcome;
 use refusals::Refusal;
 use shade_types::Frame;
 
-// From the frame and the shadow.
-fn shade_by(tables: &[u32], bytes: &[u8], l: Lighting, frame: Frame, texel: [f32; 4]) -> [u32; 8]
+// The eight channels, 0 to 255, in the printed order, from the frame and the shadow.
+pub fn shade_by(
+    tables: &[u32],
+    bytes: &[u8],
+    l: Lighting,
+    frame: Frame,
+    texel: [f32; 4],
+) -> [u32; 8]
     requires { ⌜ (length (given (now tables) (now bytes)) ≡ 12288) × (inRange l ≡ true) ⌝ }
     ensures { λ r. ⌜ r ≡ shadeBy (given (now (tables .entry)) (now (bytes .entry))) l frame texel ⌝ }
 {
@@ -32,8 +38,8 @@ fn shade_by(tables: &[u32], bytes: &[u8], l: Lighting, frame: Frame, texel: [f32
     lighting_parts::finished(l, sums, texel)
 }
 
-// The eight channels, 0 to 255, in the printed order, of a lighting in range and tables of the right length.
-pub fn shaded(
+// From the quaternion, the view and the texels.
+fn shaded(
     l: Lighting,
     tables: &[u32],
     bytes: &[u8],

@@ -1,5 +1,5 @@
-// The shading of a fragment from a block that was found well formed. The lights are read slot by slot, where they are needed, and the block, the tables
-// and the fragment come as words or as bytes.
+// The shading of a fragment's words: from a lighting that was read already, and from a block that was found well formed, whose lights are read slot by slot,
+// where they are needed. The block, the tables and the fragment come as words or as bytes.
 use block_light::light_of;
 use lighting::Lighting;
 use lighting::Slot;
@@ -16,7 +16,7 @@ ghost use Rattle.sources.specs.Sources.{given};
 ghost use Rattle.fragments.specs.Fragment.{quaternionOf, viewOf, texelsOf};
 ghost use Rattle.block.specs.Formed.{words, wellFormed};
 ghost use Rattle.block.specs.Reading.{lightsOf, lightingOf};
-ghost use Rattle.block.specs.Answers.{bumpUnit, shadowUnit, nanFree};
+ghost use Rattle.block.specs.Answers.{bumpUnit, shadowUnit, inRange, nanFree};
 ghost use Rattle.slot_shading.specs.Head.{headOf};
 ghost use Rattle.light_sums.specs.Sums.{sumsBy};
 ghost use Rattle.shading.specs.Shade.{shadeOf};
@@ -49,6 +49,22 @@ fn shadow_of(l: Lighting, fragment: &[u32], bytes: &[u8]) -> [f32; 4]
     let shadow = l.shadow;
     let texel = fragments::texel_at(fragment, bytes, shade_shadow::shadow_unit(shadow));
     shade_shadow::shadow_texel(shadow, texel)
+}
+
+// The eight channels, 0 to 255, in the printed order, from a lighting that was read already. Of the texels only those that it reads are taken.
+pub fn shade_read(
+    l: Lighting,
+    tables: &[u32],
+    table_bytes: &[u8],
+    fragment: &[u32],
+    fragment_bytes: &[u8],
+) -> [u32; 8]
+    requires { ⌜ (length (given (now tables) (now «table_bytes»)) ≡ 12288) × (length (given (now fragment) (now «fragment_bytes»)) ≡ 23) × (inRange l ≡ true) ⌝ }
+    ensures { λ r. ⌜ r ≡ shadeOf l (given (now (tables .entry)) (now («table_bytes» .entry))) (quaternionOf (given (now (fragment .entry)) (now («fragment_bytes» .entry)))) (viewOf (given (now (fragment .entry)) (now («fragment_bytes» .entry)))) (texelsOf (given (now (fragment .entry)) (now («fragment_bytes» .entry)))) ⌝ }
+{
+    let frame = frame_of(l, fragment, fragment_bytes);
+    let shadow = shadow_of(l, fragment, fragment_bytes);
+    shading::shade_by(tables, table_bytes, l, frame, shadow)
 }
 
 // The sums of the lit slots. `plain` says that no word of the block is a NaN's pattern.
@@ -91,7 +107,7 @@ fn sum_slots(
     sums
 }
 
-// The eight channels, 0 to 255, in the printed order.
+// The eight channels from a block.
 pub fn shade_lit(
     block: &[u32],
     block_bytes: &[u8],
