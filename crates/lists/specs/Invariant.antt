@@ -12,7 +12,7 @@ use Rattle.block.specs.Answers.{packedReading}
 use Rattle.lists.specs.States.{UnitState, CopyState, State}
 use Rattle.lists.specs.Plain.{Machine}
 
--- the unit's tables are as old as before, or its generation rose
+-- from u to w the unit's generation and tables stay as they were, or its generation rises by 1
 abbrev pub Rises : UnitState → UnitState → Type 0
 Rises u w =
     ((w .generation ≡ u .generation) × (w .tables ≡ u .tables)) ⊎ (w .generation ≡ u .generation + 1)
