@@ -36,7 +36,7 @@ part-take a (suc b) zero f h = absurd (omega arith)
 part-take a (suc b) (suc c) [] h = refl
 part-take a (suc b) (suc c) (x ∷ xs) h = part-take a b c xs (omega arith)
 
-kept-first : (f : List ℕ) → keptWords (take 474 f) ≡ keptWords f
+pub kept-first : (f : List ℕ) → keptWords (take 474 f) ≡ keptWords f
 unfolding keptWords
 kept-first f =
     rw (getD-take 474 f 0x08F 0 (lit< tt), part-take 133 0x140 474 f (lit≤ tt), getD-take 474 f 0x1C6 0 (lit< tt), part-take 3 0x1D0 474 f (lit≤ tt), getD-take 474 f 0x1D9 0 (lit< tt))
