@@ -47,6 +47,8 @@ use Rattle.block_shading.specs.BlockShading.{Shaded, eightOf, blockShading}
 use Rattle.refusals.specs.Lengths.{fileRefusal, tablesRefusal, registerRefusal, blockRefusal}
 use Rattle.tables.specs.Upload.{isData}
 use Rattle.tables.specs.Write.{writeIf}
+use Rattle.unit.specs.Fresh.{freshCache}
+use Rattle.unit.specs.HandOver.{Handed}
 use Rattle.lists.specs.ShadesLaws.{block-shades}
 use Rattle.lists.specs.States.{State, fresh as freshState}
 use Rattle.lists.specs.Calls.{Call, step, run}
@@ -55,7 +57,7 @@ use Rattle.lists.specs.Calls.Lent.{own}
 use Rattle.lists.specs.Plain.{plainRun, plainStep, zeros, accepts, does, plainWrite}
 use Rattle.lists.specs.Claim.{shadeFrom, Demand3, EndsHandedOver, HandsOver}
 use Rattle.lists.specs.Wrong.{painted, paintsLit}
-use Rattle.lists.proofs.Refuted.{shade-on, first-block, first-tables}
+use Rattle.lists.proofs.Refuted.{shade-on, fresh-sound, hands-over}
 
 abbrev fresh : List ℕ
 fresh = replicate 474 0
@@ -104,8 +106,10 @@ unfolding Demand3 EndsHandedOver HandsOver run step freshState writeIf fileRefus
 lit-paints-refuted cs d =
     let first = d 474 (lit≤ tt) (write 0x08F 1 ∷ write 0x1C4 0xFFFF_FFFF ∷ handOver ∷ []) (lit< tt) in
     let second = d 474 (lit≤ tt) (write 0x08F 1 ∷ write 0x1C4 0xFFFF_FFFF ∷ write 0x1C0 0xFF3_FCFF ∷ handOver ∷ []) (lit< tt) in
+    let h = hands-over dark entries 0 freshCache (replicate 328 0) entries 0 fresh-sound refl in
+    let k = hands-over bright entries 0 freshCache (replicate 328 0) entries 0 fresh-sound refl in
     let black : cs ≡ 0 ∷ 0 ∷ 0 ∷ 255 ∷ 0 ∷ 0 ∷ 0 ∷ 255 ∷ [] =
-    paints cs _ _ dark entries (first-block dark entries 0 (replicate 328 0) entries 0) (ap length (first-tables dark entries 0 (replicate 328 0) entries 0)) refl (first .shades refl fragment answer refl refl) ∙ colours .black in
+    paints cs _ _ dark entries (ap (λ (w : Handed). w .block) h) (ap (λ (w : Handed). length (w .tables)) h) refl (first .shades refl fragment answer refl refl) ∙ colours .black in
     let white : cs ≡ 255 ∷ 255 ∷ 255 ∷ 255 ∷ 0 ∷ 0 ∷ 0 ∷ 255 ∷ [] =
-    paints cs _ _ bright entries (first-block bright entries 0 (replicate 328 0) entries 0) (ap length (first-tables bright entries 0 (replicate 328 0) entries 0)) refl (second .shades refl fragment answer refl refl) ∙ colours .white in
+    paints cs _ _ bright entries (ap (λ (w : Handed). w .block) k) (ap (λ (w : Handed). length (w .tables)) k) refl (second .shades refl fragment answer refl refl) ∙ colours .white in
     omega (arith, ap (λ (l : List ℕ). getD l 0 0) (sym black ∙ white))

@@ -1,10 +1,10 @@
 -- Demand 3 fails for the wrong implementations: each has a list after which block shading answers otherwise than the machine's registers and
 -- entries ask. Assumes nothing.
-use Prim.Native.Nat.{ℕ, zero, suc, _<_}
+use Prim.Native.Nat.{ℕ}
 use native.Mathlib.Omega.{arith}
 use mathlib.Core.Path.{_≡_, refl, sym, ap, _∙_}
 use mathlib.Core.List.{List, [], _∷_}
-use mathlib.Core.Bool.{Bool, true, false, cond, not, _&&_}
+use mathlib.Core.Bool.{Bool, true, false, cond, false≢true}
 use lib.ListN.{length, set, replicate}
 use lib.Dec.{eqb, lit<, lit≤}
 use Rattle.register_lighting.specs.Lighting.{lightingOf}
@@ -14,18 +14,21 @@ use Rattle.refusals.specs.Lengths.{fileRefusal, tablesRefusal, savedRefusal, bl
 use Rattle.tables.specs.Upload.{isData}
 use Rattle.tables.specs.Generation.{last}
 use Rattle.tables.specs.Restore.{restoreIf}
+use Rattle.unit.specs.declared.Cache.{Cache}
 use Rattle.unit.specs.Fresh.{freshCache}
-use Rattle.unit.specs.CachedRead.{current, readAnew, refreshed}
-use Rattle.unit.specs.HandOver.{handed, taken, handOverRead, handOverIf}
+use Rattle.unit.specs.CachedRead.{refreshed}
+use Rattle.unit.specs.HandOver.{Handed, handed, handOverRefusal, taken, handOverRead, handOverIf}
 use Rattle.unit.specs.DecodedLaws.{decoded-packable}
 use Rattle.block_shading.specs.BlockShading.{Shaded, blockShading}
 use Rattle.lists.specs.ShadesLaws.{block-shades}
-use Rattle.lists.specs.States.{State, fresh, Implementation}
+use Rattle.lists.specs.States.{State, fresh}
 use Rattle.lists.specs.Calls.{Call, step, run}
 use Rattle.lists.specs.Calls.Call.{Write, Restore, HandOver}
 use Rattle.lists.specs.Calls.Lent.{own}
-use Rattle.lists.specs.Plain.{plain, plainRun, plainStep, zeros, accepts, does, plainWrite}
+use Rattle.lists.specs.Plain.{plainRun, plainStep, zeros, accepts, does, plainWrite}
 use Rattle.lists.specs.Claim.{shadeFrom, Demand3, EndsHandedOver, HandsOver}
+use Rattle.lists.specs.Invariant.{Sound}
+use Rattle.lists.specs.ReadCallLaws.{read-sound}
 use Rattle.lists.specs.Wrong.{refusesWrites, paintsOne, copyingNothing, copiesNothing, copyingOnce, copiesOnce}
 
 decoded-on : (f : List ℕ) → decoded f .on ≡ lightingOn f
@@ -50,30 +53,14 @@ packed-off : (f : List ℕ) → lightingOn f ≡ false → packedReading (decode
 unfolding packedReading
 packed-off f h = rw (decoded-on f ∙ h) refl
 
--- a hand-over with an empty cache, past its refusals by length
-pub first-block : (f t : List ℕ) (g : ℕ) (b ct : List ℕ) (cg : ℕ) → handOverIf 0 f t g freshCache b ct cg .block ≡ packedReading (decoded f)
-unfolding handOverIf handOverRead taken refreshed current readAnew freshCache
-first-block f t g b ct cg = rw (decoded-packable f) (go (eqb g cg))
-  where
-    go : (x : Bool) → cond x (handed 0 (refreshed f freshCache) (packedReading (decoded f)) ct cg) (handed 0 (refreshed f freshCache) (packedReading (decoded f)) t g) .block ≡ packedReading (decoded f)
-    go true = refl
-    go false = refl
+pub fresh-sound : Sound freshCache
+unfolding freshCache
+fresh-sound e = absurd (false≢true e)
 
-pub first-tables : (f t : List ℕ) (g : ℕ) (b ct : List ℕ) (cg : ℕ) → handOverIf 0 f t g freshCache b ct cg .tables ≡ cond (eqb g cg) ct t
-unfolding handOverIf handOverRead taken refreshed current readAnew freshCache
-first-tables f t g b ct cg = rw (decoded-packable f) (go (eqb g cg))
-  where
-    go : (x : Bool) → cond x (handed 0 (refreshed f freshCache) (packedReading (decoded f)) ct cg) (handed 0 (refreshed f freshCache) (packedReading (decoded f)) t g) .tables ≡ cond x ct t
-    go true = refl
-    go false = refl
-
-first-generation : (f t : List ℕ) (g : ℕ) (b ct : List ℕ) (cg : ℕ) → handOverIf 0 f t g freshCache b ct cg .generation ≡ cond (eqb g cg) cg g
-unfolding handOverIf handOverRead taken refreshed current readAnew freshCache
-first-generation f t g b ct cg = rw (decoded-packable f) (go (eqb g cg))
-  where
-    go : (x : Bool) → cond x (handed 0 (refreshed f freshCache) (packedReading (decoded f)) ct cg) (handed 0 (refreshed f freshCache) (packedReading (decoded f)) t g) .generation ≡ cond x cg g
-    go true = refl
-    go false = refl
+-- a hand-over that no length refuses, from a sound cache: the copy takes the block, and at another generation the tables and the generation
+pub hands-over : (f t : List ℕ) (g : ℕ) (c : Cache) (b ct : List ℕ) (cg : ℕ) → Sound c → handOverRefusal (length f) (length t) (length ct) (length b) ≡ 0 → handOverIf (handOverRefusal (length f) (length t) (length ct) (length b)) f t g c b ct cg ≡ cond (eqb g cg) (handed 0 (refreshed f c) (packedReading (decoded f)) ct cg) (handed 0 (refreshed f c) (packedReading (decoded f)) t g)
+unfolding handOverIf handOverRead taken
+hands-over f t g c b ct cg sound passed = rw (passed, read-sound f c sound .0, decoded-packable f) refl
 
 handOver : Call
 handOver = HandOver own own own own
@@ -108,9 +95,10 @@ refuses-refuted : Demand3 refusesWrites → ⊥
 unfolding Demand3 EndsHandedOver HandsOver run step fresh fileRefusal tablesRefusal blockRefusal plainRun plainStep zeros accepts does plainWrite isData lightingOn handOver switchOn fragment answer
 refuses-refuted d =
     let after = d 474 (lit≤ tt) (switchOn ∷ handOver ∷ []) (lit< tt) in
+    let h = hands-over (replicate 474 0) (replicate 12288 0) 0 freshCache (replicate 328 0) (replicate 12288 0) 0 fresh-sound refl in
     stale _ _ (set (replicate 474 0) 0x08F 1) (replicate 12288 0)
-    (first-block (replicate 474 0) (replicate 12288 0) 0 (replicate 328 0) (replicate 12288 0) 0 ∙ packed-off (replicate 474 0) refl)
-    (ap length (first-tables (replicate 474 0) (replicate 12288 0) 0 (replicate 328 0) (replicate 12288 0) 0))
+    (ap (λ (w : Handed). w .block) h ∙ packed-off (replicate 474 0) refl)
+    (ap (λ (w : Handed). length (w .tables)) h)
     refl
     (after .shades refl fragment answer refl refl)
 
@@ -139,10 +127,11 @@ once-refuted d =
     let first : State = run copiesOnce (fresh 474) (restoring ∷ handOver ∷ []) in
     let lit : State = step copiesOnce first switchOn in
     let after = d 474 (lit≤ tt) (restoring ∷ handOver ∷ switchOn ∷ handOver ∷ []) (lit< tt) in
-    let g : eqb (first .copy .generation) 0 ≡ false = ap (λ (x : ℕ). eqb x 0) (first-generation file tables 1 block tables 0) in
+    let h = hands-over file tables 1 freshCache block tables 0 fresh-sound refl in
+    let g : eqb (first .copy .generation) 0 ≡ false = ap (λ (w : Handed). eqb (w .generation) 0) h in
     stale (step copiesOnce lit handOver .copy .block) (step copiesOnce lit handOver .copy .tables) (set file 0x08F 1) tables
-    (once-block lit g ∙ first-block file tables 1 block tables 0 ∙ packed-off file refl)
-    (ap length (once-tables lit g ∙ first-tables file tables 1 block tables 0))
+    (once-block lit g ∙ ap (λ (w : Handed). w .block) h ∙ packed-off file refl)
+    (ap length (once-tables lit g ∙ ap (λ (w : Handed). w .tables) h))
     refl
     (after .shades refl fragment answer refl refl)
 
