@@ -1,2 +1,3 @@
 pub mod Refuted
+pub mod Colours
 pub mod Painted

@@ -1,0 +1,72 @@
+-- The colours that the definition gives in two scenes. Registers, tables and fragment are closed, so both sides of each equation compute to the
+-- same eight numbers. Assumes nothing.
+use Prim.Native.Nat.{ℕ}
+use mathlib.Core.Path.{_≡_, refl}
+use mathlib.Core.List.{List, [], _∷_}
+use lib.ListN.{set, replicate}
+use lib.Ieee.{neg, add, sub, mul, div, lt, eq, isNan, ofInt, ofBits, toUnsigned, toSigned}
+use Rattle.root.specs.Root.{rootOf}
+use Rattle.binary32.specs.Order.{magnitudeOf, before, maxOf, minOf, clampOf}
+use Rattle.binary32.specs.Quantize.{quantizedOf, channelOf}
+use Rattle.fields.specs.Colour.{colourChannel, colourField, colourOf}
+use Rattle.fields.specs.Fixed.{signed13, fixedOf}
+use Rattle.fields.specs.ShortFloat.{shortExponent, shortSign, shortWord, shortFloat}
+use Rattle.vectors.specs.Vectors.{plusOf, minusOf, timesOf, overOf, dotOf, crossOf, normalizedOf, axisOf, turnOf, plusTwice, rotateOf}
+use Rattle.lighting.specs.Blank.{blankLight}
+use Rattle.configuration.specs.Supported.{configOf, supportedBy}
+use Rattle.slots.specs.Slots.{countOf, numberOf}
+use Rattle.light_fields.specs.LightFields.{lightRegister, lightColour, positionOf, spotOf as spotRead}
+use Rattle.lights.specs.Lights.{distanceOf as distanceRead, spotlitOf, lightOf, slotLight, lightsOf}
+use Rattle.lookups.specs.Tables.{scaleOf, lookupOf as lookupRead, tableOf, lookupsOf as lookupsRead}
+use Rattle.settings.specs.Settings.{bumpOf, shadowOf as shadowRead}
+use Rattle.needs.specs.Needs.{litLights, inputHalf, inputView, lookupHalf, lookupView, halfInput, viewInput, needsHalf, needsView}
+use Rattle.register_lighting.specs.Lighting.{lightingOf}
+use Rattle.decoding.specs.Decode.{lightingOn, decoded}
+use Rattle.block.specs.Answers.{bumpUnit, shadowUnit}
+use Rattle.shade_surface.specs.Surface.{lengthOf, quaternionOver, unitQuaternion, tangentOf, unitIf, frameOf}
+use Rattle.shade_bump.specs.Bump.{surfaceNormal, surfaceTangent}
+use Rattle.shade_shadow.specs.Shadow.{shadowOf}
+use Rattle.shade_light.specs.Toward.{lightVector, halfOf, towardOf}
+use Rattle.shade_facing.specs.Facing.{facingOf, highlightsOf, factorBy, factorOf}
+use Rattle.shade_values.specs.Values.{present}
+use Rattle.shade_step.specs.Lookups.{valueIf, spotOf, fresnelOf, distanceBy, distanceOf, valuesBy, valuesOf}
+use Rattle.shade_shadow.specs.Shadow.{primaryOf, secondaryOf, alphaOf}
+use Rattle.shade_terms.specs.Terms.{diffuseOf, timesIf, specular0Of, reflectedOf, specular1Of, specularBy, specularOf}
+use Rattle.shade_sums.specs.Sums.{shadowFor, addedOf, summedOf, withLightBy, withLight}
+use Rattle.shade_channels.specs.Channels.{shadowedAlpha, finishOf}
+use Rattle.shade_step.specs.Step.{stepOf}
+use Rattle.lighting_parts.specs.Parts.{lookupsOf, settingsOf, lightingFrame, lightingShadow, finishedOf}
+use Rattle.light_sums.specs.Sums.{sumsBy}
+use Rattle.shading.specs.Shade.{sumsOf, shadeBy, shadeOf}
+use Rattle.fragments.specs.Fragment.{floatAt, fourAt, quaternionOf, viewOf, texelsOf}
+use Rattle.block_shading.specs.BlockShading.{eightOf}
+use Rattle.lists.specs.Claim.{shadeFrom}
+
+-- registers of a fresh unit, and its tables
+abbrev pub fresh : List ℕ
+fresh = replicate 474 0
+
+abbrev pub empty : List ℕ
+empty = replicate 12288 0
+
+abbrev pub fragment : List ℕ
+fragment = replicate 23 0
+
+abbrev pub answer : List ℕ
+answer = replicate 8 0
+
+-- one light and no tables: 8F 1, 1C4 FFFFFFFF
+abbrev pub dark : List ℕ
+dark = set (set fresh 0x08F 1) 0x1C4 0xFFFF_FFFF
+
+-- and a white global ambient: 1C0 FF3FCFF
+abbrev pub bright : List ℕ
+bright = set dark 0x1C0 0xFF3_FCFF
+
+pub record Colours : Type 0 where
+  pub black : shadeFrom dark empty fragment answer .answer ≡ 0 ∷ 0 ∷ 0 ∷ 255 ∷ 0 ∷ 0 ∷ 0 ∷ 255 ∷ []
+  pub white : shadeFrom bright empty fragment answer .answer ≡ 255 ∷ 255 ∷ 255 ∷ 255 ∷ 0 ∷ 0 ∷ 0 ∷ 255 ∷ []
+
+pub colours : Colours
+unfolding neg add sub mul div lt eq isNan ofInt ofBits toUnsigned toSigned rootOf magnitudeOf before maxOf minOf clampOf quantizedOf channelOf colourChannel colourField colourOf signed13 fixedOf shortExponent shortSign shortWord shortFloat plusOf minusOf timesOf overOf dotOf crossOf normalizedOf axisOf turnOf plusTwice rotateOf blankLight configOf supportedBy countOf numberOf lightRegister lightColour positionOf spotRead distanceRead spotlitOf lightOf slotLight lightsOf scaleOf lookupRead tableOf lookupsRead bumpOf shadowRead litLights inputHalf inputView lookupHalf lookupView halfInput viewInput needsHalf needsView lightingOn lightingOf decoded bumpUnit shadowUnit lengthOf quaternionOver unitQuaternion shadowOf surfaceNormal surfaceTangent tangentOf unitIf frameOf lightVector halfOf towardOf facingOf highlightsOf factorBy factorOf present valueIf spotOf fresnelOf distanceBy distanceOf valuesBy valuesOf primaryOf secondaryOf alphaOf diffuseOf timesIf specular0Of reflectedOf specular1Of specularBy specularOf shadowFor addedOf summedOf withLightBy withLight shadowedAlpha finishOf lookupsOf settingsOf stepOf sumsBy sumsOf lightingFrame lightingShadow finishedOf shadeBy shadeOf floatAt fourAt quaternionOf viewOf texelsOf eightOf shadeFrom
+colours = record { black = refl; white = refl }
