@@ -1,4 +1,4 @@
--- The colours that the definition gives in two scenes. Registers, tables and fragment are closed, so both sides of each equation compute to the
+-- The colours that the definition gives in four scenes. Registers, tables and fragment are closed, so both sides of each equation compute to the
 -- same eight numbers. Assumes nothing.
 use Prim.Native.Nat.{ℕ}
 use mathlib.Core.Path.{_≡_, refl}
@@ -7,11 +7,14 @@ use lib.ListN.{set, replicate}
 use lib.Ieee.{neg, add, sub, mul, div, lt, eq, isNan, ofInt, ofBits, toUnsigned, toSigned}
 use Rattle.root.specs.Root.{rootOf}
 use Rattle.binary32.specs.Order.{magnitudeOf, before, maxOf, minOf, clampOf}
+use Rattle.binary32.specs.Floor.{floorOf}
+use Rattle.binary32.specs.Places.{unsignedPlaceOf}
 use Rattle.binary32.specs.Quantize.{quantizedOf, channelOf}
 use Rattle.fields.specs.Colour.{colourChannel, colourField, colourOf}
 use Rattle.fields.specs.Fixed.{signed13, fixedOf}
 use Rattle.fields.specs.ShortFloat.{shortExponent, shortSign, shortWord, shortFloat}
 use Rattle.vectors.specs.Vectors.{plusOf, minusOf, timesOf, overOf, dotOf, crossOf, normalizedOf, axisOf, turnOf, plusTwice, rotateOf}
+use Rattle.tables.specs.Lookup.{interpolated, lookupOf as lookupAt}
 use Rattle.lighting.specs.Blank.{blankLight}
 use Rattle.configuration.specs.Supported.{configOf, supportedBy}
 use Rattle.slots.specs.Slots.{countOf, numberOf}
@@ -26,8 +29,9 @@ use Rattle.block.specs.Answers.{bumpUnit, shadowUnit}
 use Rattle.shade_surface.specs.Surface.{lengthOf, quaternionOver, unitQuaternion, tangentOf, unitIf, frameOf}
 use Rattle.shade_bump.specs.Bump.{surfaceNormal, surfaceTangent}
 use Rattle.shade_shadow.specs.Shadow.{shadowOf}
-use Rattle.shade_light.specs.Toward.{lightVector, halfOf, towardOf}
+use Rattle.shade_light.specs.Toward.{lightVector, halfOf, towardOf, offsetOf, awayOf}
 use Rattle.shade_facing.specs.Facing.{facingOf, highlightsOf, factorBy, factorOf}
+use Rattle.shade_distance.specs.Distance.{distancePlace}
 use Rattle.shade_values.specs.Values.{present}
 use Rattle.shade_step.specs.Lookups.{valueIf, spotOf, fresnelOf, distanceBy, distanceOf, valuesBy, valuesOf}
 use Rattle.shade_shadow.specs.Shadow.{primaryOf, secondaryOf, alphaOf}
@@ -49,6 +53,10 @@ fresh = replicate 474 0
 abbrev pub empty : List ℕ
 empty = replicate 12288 0
 
+-- every word is the float 1
+abbrev pub ones : List ℕ
+ones = replicate 12288 0x3F80_0000
+
 abbrev pub fragment : List ℕ
 fragment = replicate 23 0
 
@@ -63,10 +71,16 @@ dark = set (set fresh 0x08F 1) 0x1C4 0xFFFF_FFFF
 abbrev pub bright : List ℕ
 bright = set dark 0x1C0 0xFF3_FCFF
 
+-- a white light at 0 0 1 that reads its falloff, and no other table: 8F 1, 142 FF3FCFF, 145 3C00, 1C4 FEFFFFFF
+abbrev pub lantern : List ℕ
+lantern = set (set (set (set fresh 0x08F 1) 0x142 0xFF3_FCFF) 0x145 0x3C00) 0x1C4 0xFEFF_FFFF
+
 pub record Colours : Type 0 where
   pub black : shadeFrom dark empty fragment answer .answer ≡ 0 ∷ 0 ∷ 0 ∷ 255 ∷ 0 ∷ 0 ∷ 0 ∷ 255 ∷ []
   pub white : shadeFrom bright empty fragment answer .answer ≡ 255 ∷ 255 ∷ 255 ∷ 255 ∷ 0 ∷ 0 ∷ 0 ∷ 255 ∷ []
+  pub unlit : shadeFrom lantern empty fragment answer .answer ≡ 0 ∷ 0 ∷ 0 ∷ 255 ∷ 0 ∷ 0 ∷ 0 ∷ 255 ∷ []
+  pub lit : shadeFrom lantern ones fragment answer .answer ≡ 255 ∷ 255 ∷ 255 ∷ 255 ∷ 0 ∷ 0 ∷ 0 ∷ 255 ∷ []
 
 pub colours : Colours
-unfolding neg add sub mul div lt eq isNan ofInt ofBits toUnsigned toSigned rootOf magnitudeOf before maxOf minOf clampOf quantizedOf channelOf colourChannel colourField colourOf signed13 fixedOf shortExponent shortSign shortWord shortFloat plusOf minusOf timesOf overOf dotOf crossOf normalizedOf axisOf turnOf plusTwice rotateOf blankLight configOf supportedBy countOf numberOf lightRegister lightColour positionOf spotRead distanceRead spotlitOf lightOf slotLight lightsOf scaleOf lookupRead tableOf lookupsRead bumpOf shadowRead litLights inputHalf inputView lookupHalf lookupView halfInput viewInput needsHalf needsView lightingOn lightingOf decoded bumpUnit shadowUnit lengthOf quaternionOver unitQuaternion shadowOf surfaceNormal surfaceTangent tangentOf unitIf frameOf lightVector halfOf towardOf facingOf highlightsOf factorBy factorOf present valueIf spotOf fresnelOf distanceBy distanceOf valuesBy valuesOf primaryOf secondaryOf alphaOf diffuseOf timesIf specular0Of reflectedOf specular1Of specularBy specularOf shadowFor addedOf summedOf withLightBy withLight shadowedAlpha finishOf lookupsOf settingsOf stepOf sumsBy sumsOf lightingFrame lightingShadow finishedOf shadeBy shadeOf floatAt fourAt quaternionOf viewOf texelsOf eightOf shadeFrom
-colours = record { black = refl; white = refl }
+unfolding neg add sub mul div lt eq isNan ofInt ofBits toUnsigned toSigned rootOf magnitudeOf before maxOf minOf clampOf floorOf unsignedPlaceOf quantizedOf channelOf colourChannel colourField colourOf signed13 fixedOf shortExponent shortSign shortWord shortFloat plusOf minusOf timesOf overOf dotOf crossOf normalizedOf axisOf turnOf plusTwice rotateOf interpolated lookupAt blankLight configOf supportedBy countOf numberOf lightRegister lightColour positionOf spotRead distanceRead spotlitOf lightOf slotLight lightsOf scaleOf lookupRead tableOf lookupsRead bumpOf shadowRead litLights inputHalf inputView lookupHalf lookupView halfInput viewInput needsHalf needsView lightingOn lightingOf decoded bumpUnit shadowUnit lengthOf quaternionOver unitQuaternion shadowOf surfaceNormal surfaceTangent tangentOf unitIf frameOf lightVector halfOf towardOf offsetOf awayOf facingOf highlightsOf factorBy factorOf distancePlace present valueIf spotOf fresnelOf distanceBy distanceOf valuesBy valuesOf primaryOf secondaryOf alphaOf diffuseOf timesIf specular0Of reflectedOf specular1Of specularBy specularOf shadowFor addedOf summedOf withLightBy withLight shadowedAlpha finishOf lookupsOf settingsOf stepOf sumsBy sumsOf lightingFrame lightingShadow finishedOf shadeBy shadeOf floatAt fourAt quaternionOf viewOf texelsOf eightOf shadeFrom
+colours = record { black = refl; white = refl; unlit = refl; lit = refl }

@@ -1,3 +1,4 @@
 pub mod Refuted
 pub mod Colours
 pub mod Painted
+pub mod StaleTables

@@ -1,4 +1,5 @@
--- Wrong implementations, each ours but for one call: the four of which document 01 says that they fail by demand 3. Definitions only.
+-- Wrong implementations, each ours but for one call: the four of which document 01 says that they fail by demand 3, and three that are wrong in
+-- less, a shader that paints one colour only where the lighting is on and two hand-overs that leave only the copy's tables. Definitions only.
 use Prim.Native.Nat.{ℕ}
 use mathlib.Core.List.{List}
 use mathlib.Core.Bool.{cond}
@@ -63,6 +64,22 @@ copiesNothing =
       blockShading = blockShading;
     }
 
+-- a hand-over that copies no tables: the copy takes the block and the generation
+unfoldable pub copyingNoTables : List ℕ → List ℕ → ℕ → Cache → List ℕ → List ℕ → ℕ → Handed
+copyingNoTables f t g c b ct cg =
+    let w = handOver f t g c b ct cg in
+    handed (w .number) (w .cache) (w .block) ct (w .generation)
+
+abbrev pub copiesNoTables : Implementation
+copiesNoTables =
+    record {
+      write = write;
+      restore = restore;
+      cachedRead = cachedRead;
+      handOver = copyingNoTables;
+      blockShading = blockShading;
+    }
+
 -- "one that copies only the first time": while the copy's generation is 0
 unfoldable pub copyingOnce : List ℕ → List ℕ → ℕ → Cache → List ℕ → List ℕ → ℕ → Handed
 copyingOnce f t g c b ct cg = cond (eqb cg 0) (handOver f t g c b ct cg) (copyingNothing f t g c b ct cg)
@@ -74,5 +91,19 @@ copiesOnce =
       restore = restore;
       cachedRead = cachedRead;
       handOver = copyingOnce;
+      blockShading = blockShading;
+    }
+
+-- one that copies the tables only the first time, while the copy's generation is 0: the block and the generation it takes every time
+unfoldable pub copyingTablesOnce : List ℕ → List ℕ → ℕ → Cache → List ℕ → List ℕ → ℕ → Handed
+copyingTablesOnce f t g c b ct cg = cond (eqb cg 0) (handOver f t g c b ct cg) (copyingNoTables f t g c b ct cg)
+
+abbrev pub copiesTablesOnce : Implementation
+copiesTablesOnce =
+    record {
+      write = write;
+      restore = restore;
+      cachedRead = cachedRead;
+      handOver = copyingTablesOnce;
       blockShading = blockShading;
     }
