@@ -6,6 +6,7 @@
 pub mod bodies;
 pub mod curves;
 pub mod drawing;
+pub mod files;
 pub mod names;
 pub mod pack;
 pub mod png;

@@ -2,6 +2,7 @@
 
 use crate::bodies::{total_words, words, Body, Kind, FRAGMENT_WORDS, MOST_BODIES, MOST_WORDS, RESTORE_WORDS};
 use crate::curves::Curve;
+use crate::files::Input;
 use crate::names::{self, nearest, REGISTERS, TABLE_DATA, TABLE_INDEX};
 use crate::values::{float, pair_writes, value, whole, word};
 use std::fmt;
@@ -31,14 +32,14 @@ pub fn pack(text: &str, folder: &Path) -> Result<Vec<Body>, Wrong> {
     Ok(packer.bodies)
 }
 
-/// The bodies of a text's file as it was read; what is wrong is said with the file's name, and the line where there is one.
-pub fn pack_file(name: &str, input: &[u8]) -> Result<Vec<Body>, String> {
-    if input.contains(&0) {
+/// The bodies of a text's file; what is wrong is said with the file's name, and the line where there is one.
+pub fn pack_file(input: &Input) -> Result<Vec<Body>, String> {
+    let Input { name, folder, bytes } = input;
+    if bytes.contains(&0) {
         return Err(format!("{name}: this is no text; if it is a capture, 'capture unpack' gives its text"));
     }
-    let line = |valid: usize| 1 + input[..valid].iter().filter(|byte| **byte == b'\n').count();
-    let text = std::str::from_utf8(input).map_err(|e| format!("{name}:{}: the line is not UTF-8", line(e.valid_up_to())))?;
-    let folder = Path::new(name).parent().unwrap_or(Path::new(""));
+    let line = |valid: usize| 1 + bytes[..valid].iter().filter(|byte| **byte == b'\n').count();
+    let text = std::str::from_utf8(bytes).map_err(|e| format!("{name}:{}: the line is not UTF-8", line(e.valid_up_to())))?;
     pack(text, folder).map_err(|wrong| format!("{name}:{}: {}", wrong.line, wrong.what))
 }
 

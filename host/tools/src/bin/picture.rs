@@ -2,10 +2,12 @@
 
 use lighting_tools::bodies::Body;
 use lighting_tools::drawing::{self, differences, panels, Canvas, Colours};
+use lighting_tools::files::{print, read};
 use lighting_tools::pack::pack_file;
 use lighting_tools::png;
 use lighting_tools::shapes::{fragments, Fragment, Shape};
-use std::io::{self, IsTerminal, Write};
+use std::ffi::OsString;
+use std::io::{self, IsTerminal};
 use std::path::PathBuf;
 use std::process::ExitCode;
 use std::{env, fs};
@@ -26,8 +28,8 @@ if a pixel differs. --no-rust leaves them out.
 const USAGE: &str = "picture is run as: picture SCENE OUT.png [OPTIONS]; picture --help tells more";
 
 struct Options {
-    scene: String,
-    out: String,
+    scene: OsString,
+    out: OsString,
     shape: Shape,
     size: usize,
     hand_over: Option<usize>,
@@ -35,29 +37,30 @@ struct Options {
     rust: bool,
 }
 
-fn options(arguments: impl Iterator<Item = String>) -> Result<Options, String> {
+fn options(arguments: impl Iterator<Item = OsString>) -> Result<Options, String> {
     let mut names = vec![];
     let mut options =
-        Options { scene: String::new(), out: String::new(), shape: Shape::Sphere, size: 256, hand_over: None, lightshow: None, rust: true };
+        Options { scene: OsString::new(), out: OsString::new(), shape: Shape::Sphere, size: 256, hand_over: None, lightshow: None, rust: true };
     let mut arguments = arguments;
     while let Some(argument) = arguments.next() {
-        let mut value = || arguments.next().ok_or(format!("{argument} needs something after it"));
-        match argument.as_str() {
-            "--shape" => {
-                let name = value()?;
+        let mut value = || arguments.next().ok_or(format!("{} needs something after it", argument.display()));
+        let mut text = || value().map(|value| value.to_string_lossy().into_owned());
+        match argument.to_str() {
+            Some("--shape") => {
+                let name = text()?;
                 options.shape = Shape::of(&name).ok_or(format!("no shape is called '{name}': there are sphere, plane and both"))?;
             }
-            "--size" => {
-                let text = value()?;
+            Some("--size") => {
+                let text = text()?;
                 options.size = text.parse().ok().filter(|n| (1..=1024).contains(n)).ok_or(format!("'{text}' is not a size from 1 to 1024"))?;
             }
-            "--hand-over" => {
-                let text = value()?;
+            Some("--hand-over") => {
+                let text = text()?;
                 options.hand_over = Some(text.parse().ok().filter(|n| *n > 0).ok_or(format!("'{text}' is not the number of a hand-over"))?);
             }
-            "--lightshow" => options.lightshow = Some(PathBuf::from(value()?)),
-            "--no-rust" => options.rust = false,
-            other if other.starts_with("--") => return Err(format!("there is no option {other}; {USAGE}")),
+            Some("--lightshow") => options.lightshow = Some(value()?.into()),
+            Some("--no-rust") => options.rust = false,
+            Some(other) if other.starts_with("--") => return Err(format!("there is no option {other}; {USAGE}")),
             _ => names.push(argument),
         }
     }
@@ -66,12 +69,12 @@ fn options(arguments: impl Iterator<Item = String>) -> Result<Options, String> {
 }
 
 fn main() -> ExitCode {
-    let mut arguments = env::args().skip(1).peekable();
-    if arguments.peek().is_some_and(|first| ["--help", "-h", "help"].contains(&first.as_str())) {
-        say(HELP.trim_end());
-        return ExitCode::SUCCESS;
-    }
-    match options(arguments).and_then(|options| picture(&options)) {
+    let mut arguments = env::args_os().skip(1).peekable();
+    let done = match arguments.peek() {
+        Some(first) if ["--help", "-h", "help"].iter().any(|known| first == known) => print(HELP.as_bytes()).map(|()| 0),
+        _ => options(arguments).and_then(|options| picture(&options)),
+    };
+    match done {
         Ok(0) => ExitCode::SUCCESS,
         Ok(_) => ExitCode::FAILURE,
         Err(what) => {
@@ -81,24 +84,23 @@ fn main() -> ExitCode {
     }
 }
 
-/// Prints a line, if anyone still reads.
-fn say(line: &str) {
-    let _ = writeln!(io::stdout(), "{line}");
+fn say(line: &str) -> Result<(), String> {
+    print(format!("{line}\n").as_bytes())
 }
 
 /// Draws the picture, and gives the number of pixels that differ from the Rust's.
 fn picture(options: &Options) -> Result<usize, String> {
-    let (scene, out) = (&options.scene, &options.out);
-    if !out.ends_with(".png") {
+    let out = options.out.display();
+    if !out.to_string().ends_with(".png") {
         return Err(format!("{out} does not end in .png; {USAGE}"));
     }
-    let bodies = pack_file(scene, &fs::read(scene).map_err(|e| format!("{scene}: {e}"))?)?;
-    let setup = drawing::setup(&bodies, options.hand_over).map_err(|what| format!("{scene}: {what}"))?;
+    let scene = read(&options.scene)?;
+    let setup = drawing::setup(&pack_file(&scene)?, options.hand_over).map_err(|what| format!("{}: {what}", scene.name))?;
     let places = fragments(options.shape, options.size);
     let seen: Vec<bool> = places.iter().map(Option::is_some).collect();
     let fragments: Vec<Fragment> = places.into_iter().flatten().collect();
 
-    let colours = ours(options, &setup, &fragments)?;
+    let colours = ours(options, &scene.name, &setup, &fragments)?;
     let rust = if options.rust { theirs(&setup, &fragments) } else { None };
     let mut canvas = Canvas::new(options.size, if rust.is_some() { 3 } else { 1 });
     canvas.paint(0, &seen, colours.iter().map(panels));
@@ -106,14 +108,14 @@ fn picture(options: &Options) -> Result<usize, String> {
         canvas.paint(1, &seen, rust.iter().map(panels));
         canvas.paint(2, &seen, colours.iter().zip(rust).map(|(ours, theirs)| differences(ours, theirs)));
     }
-    fs::write(out, png::file(canvas.width, canvas.height, &canvas.pixels)).map_err(|e| format!("{out}: {e}"))?;
-    say(&format!("{out}: {} x {}, {} pixels by lightshow", canvas.width, canvas.height, fragments.len()));
-    Ok(report(options, &colours, rust.as_deref()))
+    fs::write(&options.out, png::file(canvas.width, canvas.height, &canvas.pixels)).map_err(|e| format!("{out}: {e}"))?;
+    say(&format!("{out}: {} x {}, {} pixels by lightshow", canvas.width, canvas.height, fragments.len()))?;
+    report(options, &colours, rust.as_deref())
 }
 
 /// The proved program's colours, with a line that tells how far it is where the errors go to a terminal.
-fn ours(options: &Options, setup: &[Body], fragments: &[Fragment]) -> Result<Vec<Colours>, String> {
-    let (scene, shown) = (&options.scene, io::stderr().is_terminal());
+fn ours(options: &Options, scene: &str, setup: &[Body], fragments: &[Fragment]) -> Result<Vec<Colours>, String> {
+    let shown = io::stderr().is_terminal();
     let lightshow = drawing::lightshow(options.lightshow.as_deref())?;
     let colours = drawing::draw(&lightshow, setup, fragments, |done| {
         if shown {
@@ -128,21 +130,21 @@ fn ours(options: &Options, setup: &[Body], fragments: &[Fragment]) -> Result<Vec
 }
 
 /// Says what is to be said of the colours, and gives the number of pixels that differ.
-fn report(options: &Options, colours: &[Colours], rust: Option<&[Colours]>) -> usize {
+fn report(options: &Options, colours: &[Colours], rust: Option<&[Colours]>) -> Result<usize, String> {
     if colours.iter().any(Option::is_none) {
-        say("the lighting is off: enable is not 1, or disable is 1");
+        say("the lighting is off: enable is not 1, or disable is 1")?;
     } else if colours.iter().all(|k| panels(k) == [[0; 3]; 3]) {
-        say("every pixel is black: docs/TEXT.md says what to look at");
+        say("every pixel is black: docs/TEXT.md says what to look at")?;
     }
     let Some(rust) = rust else {
         if options.rust {
-            say("nothing was compared: the tools were built without the Rust module (LIGHTING_RS names its file)");
+            say("nothing was compared: the tools were built without the Rust module (LIGHTING_RS names its file)")?;
         }
-        return 0;
+        return Ok(0);
     };
     let differ = colours.iter().zip(rust).filter(|(ours, theirs)| ours != theirs).count();
-    say(&format!("{differ} pixels differ of {} from the Rust module's", colours.len()));
-    differ
+    say(&format!("{differ} pixels differ of {} from the Rust module's", colours.len()))?;
+    Ok(differ)
 }
 
 #[cfg(oracle)]

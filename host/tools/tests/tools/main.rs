@@ -1,9 +1,10 @@
-//! The tools as their users run them: round trips, values, bad texts, damaged captures, the examples, small pictures.
+//! The tools as their users run them: round trips, values, bad texts, damaged captures, the examples, small pictures, files and streams.
 
 mod bad_texts;
 mod damaged;
 mod documents;
 mod examples;
+mod files;
 mod pictures;
 mod random;
 mod round_trips;
