@@ -4,6 +4,7 @@ use std::ffi::OsStr;
 use std::fs;
 use std::io::{self, Read, Write};
 use std::path::{Path, PathBuf};
+use std::process::ExitCode;
 
 /// A file's bytes, what it is called, and the folder that it stands in.
 pub struct Input {
@@ -30,4 +31,17 @@ pub fn print(output: &[u8]) -> Result<(), String> {
         Err(e) if e.kind() != io::ErrorKind::BrokenPipe => Err(format!("the output cannot be written: {e}")),
         _ => Ok(()),
     }
+}
+
+/// Prints on the standard error, as far as it can be written.
+pub fn tell(text: &str) {
+    let _ = io::stderr().write_all(text.as_bytes());
+}
+
+/// Ends a program: the status it gives itself, or 1 after what went wrong.
+pub fn end(done: Result<ExitCode, String>) -> ExitCode {
+    done.unwrap_or_else(|what| {
+        tell(&format!("{what}\n"));
+        ExitCode::FAILURE
+    })
 }

@@ -1,7 +1,7 @@
 //! Captures from text and back.
 
 use lighting_tools::bodies::bytes;
-use lighting_tools::files::{print, read};
+use lighting_tools::files::{end, print, read, tell};
 use lighting_tools::pack::pack_file;
 use lighting_tools::unpack::{counted, unpack};
 use std::env;
@@ -30,13 +30,7 @@ fn main() -> ExitCode {
         [how, file] if how == "unpack" => unpacked(file),
         _ => Err(format!("capture is run as\n{}", HELP.lines().take(2).collect::<Vec<_>>().join("\n"))),
     };
-    match done {
-        Ok(()) => ExitCode::SUCCESS,
-        Err(what) => {
-            eprintln!("{what}");
-            ExitCode::FAILURE
-        }
-    }
+    end(done.map(|()| ExitCode::SUCCESS))
 }
 
 fn packed(text: &OsStr) -> Result<(), String> {
@@ -58,10 +52,10 @@ fn unpacked(file: &OsStr) -> Result<(), String> {
     for number in [8, 3] {
         let places: Vec<_> = unpacked.breaks.iter().filter(|place| place.refusal == number).collect();
         for place in places.iter().take(3) {
-            eprintln!("{name}: word {} (byte {}): {}", place.word, 4 * place.word, place.what);
+            tell(&format!("{name}: word {} (byte {}): {}\n", place.word, 4 * place.word, place.what));
         }
         if places.len() > 3 {
-            eprintln!("{name}: and {} like it", counted(places.len() - 3, "place", "places"));
+            tell(&format!("{name}: and {} like it\n", counted(places.len() - 3, "place", "places")));
         }
     }
     // a capture's first word has zero bytes, a text has none

@@ -2,7 +2,7 @@
 
 use lighting_tools::bodies::Body;
 use lighting_tools::drawing::{self, differences, panels, Canvas, Colours};
-use lighting_tools::files::{print, read};
+use lighting_tools::files::{end, print, read, tell};
 use lighting_tools::pack::pack_file;
 use lighting_tools::png;
 use lighting_tools::shapes::{fragments, Fragment, Shape};
@@ -70,18 +70,11 @@ fn options(arguments: impl Iterator<Item = OsString>) -> Result<Options, String>
 
 fn main() -> ExitCode {
     let mut arguments = env::args_os().skip(1).peekable();
-    let done = match arguments.peek() {
+    let differ = match arguments.peek() {
         Some(first) if ["--help", "-h", "help"].iter().any(|known| first == known) => print(HELP.as_bytes()).map(|()| 0),
         _ => options(arguments).and_then(|options| picture(&options)),
     };
-    match done {
-        Ok(0) => ExitCode::SUCCESS,
-        Ok(_) => ExitCode::FAILURE,
-        Err(what) => {
-            eprintln!("{what}");
-            ExitCode::FAILURE
-        }
-    }
+    end(differ.map(|differ| if differ == 0 { ExitCode::SUCCESS } else { ExitCode::FAILURE }))
 }
 
 fn say(line: &str) -> Result<(), String> {
@@ -119,12 +112,12 @@ fn ours(options: &Options, scene: &str, setup: &[Body], fragments: &[Fragment]) 
     let lightshow = drawing::lightshow(options.lightshow.as_deref())?;
     let colours = drawing::draw(&lightshow, setup, fragments, |done| {
         if shown {
-            eprint!("\r{scene}: {done} of {} pixels", fragments.len());
+            tell(&format!("\r{scene}: {done} of {} pixels", fragments.len()));
         }
     });
     if shown {
         // the line is wiped, so that what follows stands alone
-        eprint!("\r\x1b[K");
+        tell("\r\x1b[K");
     }
     colours.map_err(|what| format!("{scene}: {what}"))
 }

@@ -57,3 +57,31 @@ fn a_file_name_may_be_any_bytes() {
         assert!(output.status.code() == Some(1) && output.stdout.is_empty(), "{}", errors(&output));
     }
 }
+
+/// What cannot be written is status 1, and where nobody reads on is no failure.
+#[cfg(target_os = "linux")]
+#[test]
+fn full_and_closed_outputs_are_no_panic() {
+    let (folder, _) = scene();
+    folder.file("wrong.txt", "write enabel 1\n");
+    let status = |line: &str| {
+        let line = format!("capture='{CAPTURE}'; picture='{PICTURE}'; {line}");
+        Command::new("bash").args(["-o", "pipefail", "-c", &line]).current_dir(&folder.0).output().unwrap().status.code()
+    };
+    for line in [
+        "$capture pack lamp.txt > /dev/full",
+        "$capture unpack lamp.capture > /dev/full",
+        "$capture --help > /dev/full",
+        "$picture --help > /dev/full",
+        "$picture lamp.txt out.png --size 8 > /dev/full",
+        "$picture lamp.txt nowhere/out.png --size 8",
+        "$capture pack wrong.txt 2> /dev/full",
+        "$capture unpack wrong.txt 2> /dev/full",
+        "$picture wrong.txt out.png 2> /dev/full",
+    ] {
+        assert_eq!(status(line), Some(1), "{line}");
+    }
+    for line in ["$capture unpack lamp.capture | true", "$picture lamp.txt out.png --size 8 | true", "$capture pack lamp.txt >&- 2>&-"] {
+        assert_eq!(status(line), Some(0), "{line}");
+    }
+}
