@@ -1,6 +1,6 @@
 //! What the tools read and print.
 
-use std::ffi::OsStr;
+use std::ffi::{OsStr, OsString};
 use std::fs;
 use std::io::{self, Read, Write};
 use std::path::{Path, PathBuf};
@@ -36,6 +36,11 @@ pub fn print(output: &[u8]) -> Result<(), String> {
 /// Prints on the standard error, as far as it can be written.
 pub fn tell(text: &str) {
     let _ = io::stderr().write_all(text.as_bytes());
+}
+
+/// Whether help is asked for, anywhere among the arguments.
+pub fn help_wanted(arguments: &[OsString]) -> bool {
+    arguments.first().is_some_and(|first| first == "help") || arguments.iter().any(|argument| argument == "--help" || argument == "-h")
 }
 
 /// Ends a program: the status it gives itself, or 1 after what went wrong.

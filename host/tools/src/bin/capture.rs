@@ -1,7 +1,7 @@
 //! Captures from text and back.
 
 use lighting_tools::bodies::bytes;
-use lighting_tools::files::{end, print, read, tell};
+use lighting_tools::files::{end, help_wanted, print, read, tell};
 use lighting_tools::pack::pack_file;
 use lighting_tools::unpack::{counted, unpack};
 use std::env;
@@ -25,7 +25,7 @@ and what is wrong with it, exit status 1, and no capture. All forms: docs/TEXT.m
 fn main() -> ExitCode {
     let arguments: Vec<OsString> = env::args_os().skip(1).collect();
     let done = match &arguments[..] {
-        [help] if ["--help", "-h", "help"].iter().any(|known| help == known) => print(HELP.as_bytes()),
+        _ if help_wanted(&arguments) => print(HELP.as_bytes()),
         [how, text] if how == "pack" => packed(text),
         [how, file] if how == "unpack" => unpacked(file),
         _ => Err(format!("capture is run as\n{}", HELP.lines().take(2).collect::<Vec<_>>().join("\n"))),

@@ -2,7 +2,7 @@
 
 use lighting_tools::bodies::Body;
 use lighting_tools::drawing::{self, differences, panels, Canvas, Colours};
-use lighting_tools::files::{end, print, read, tell};
+use lighting_tools::files::{end, help_wanted, print, read, tell};
 use lighting_tools::pack::pack_file;
 use lighting_tools::png;
 use lighting_tools::shapes::{fragments, Fragment, Shape};
@@ -37,11 +37,10 @@ struct Options {
     rust: bool,
 }
 
-fn options(arguments: impl Iterator<Item = OsString>) -> Result<Options, String> {
+fn options(mut arguments: impl Iterator<Item = OsString>) -> Result<Options, String> {
     let mut names = vec![];
     let mut options =
         Options { scene: OsString::new(), out: OsString::new(), shape: Shape::Sphere, size: 256, hand_over: None, lightshow: None, rust: true };
-    let mut arguments = arguments;
     while let Some(argument) = arguments.next() {
         let mut value = || arguments.next().ok_or(format!("{} needs something after it", argument.display()));
         let mut text = || value().map(|value| value.to_string_lossy().into_owned());
@@ -69,10 +68,11 @@ fn options(arguments: impl Iterator<Item = OsString>) -> Result<Options, String>
 }
 
 fn main() -> ExitCode {
-    let mut arguments = env::args_os().skip(1).peekable();
-    let differ = match arguments.peek() {
-        Some(first) if ["--help", "-h", "help"].iter().any(|known| first == known) => print(HELP.as_bytes()).map(|()| 0),
-        _ => options(arguments).and_then(|options| picture(&options)),
+    let arguments: Vec<OsString> = env::args_os().skip(1).collect();
+    let differ = if help_wanted(&arguments) {
+        print(HELP.as_bytes()).map(|()| 0)
+    } else {
+        options(arguments.into_iter()).and_then(|options| picture(&options))
     };
     end(differ.map(|differ| if differ == 0 { ExitCode::SUCCESS } else { ExitCode::FAILURE }))
 }

@@ -66,6 +66,9 @@ fn help_is_ten_lines() {
     for program in [env!("CARGO_BIN_EXE_capture"), env!("CARGO_BIN_EXE_picture")] {
         let output = Command::new(program).arg("--help").output().unwrap();
         let text = String::from_utf8(output.stdout).unwrap();
+        for arguments in [&["-h"][..], &["help"], &["pack", "--help"], &["scene.txt", "out.png", "--size", "-h"]] {
+            assert_eq!(Command::new(program).args(arguments).output().unwrap().stdout, text.as_bytes(), "{arguments:?}");
+        }
         assert!(output.status.success() && text.lines().count() == 10, "{text}");
         assert!(text.lines().all(|line| line.len() <= 105), "{text}");
         let unknown = Command::new(program).arg("--nothing").output().unwrap();
