@@ -124,6 +124,11 @@ fn fixed_text(field: u32) -> String {
     float_text((k as f32 / 2047.0).to_bits())
 }
 
+/// Numbers that stand apart by spaces or commas.
+fn numbers(text: &str) -> Vec<&str> {
+    text.split(|c: char| c.is_whitespace() || c == ',').filter(|text| !text.is_empty()).collect()
+}
+
 /// Texts each made a pattern, the first lowest and the second from bit 16.
 fn lowest_first(texts: &[&str], pattern: impl Fn(&str) -> Result<u32, String>) -> Result<u32, String> {
     texts.iter().rev().try_fold(0, |word, text| Ok(word << 16 | pattern(text)?))
@@ -140,20 +145,8 @@ fn entry(value: &str, step: &str) -> Result<u32, String> {
     Ok(sign << 23 | magnitude << 12 | whole(value, 4095)?)
 }
 
-/// The words of a form in brackets.
-fn called(name: &str, texts: &[&str]) -> Result<u32, String> {
-    match (name, texts) {
-        ("rgb", [_, _, _]) => colour(texts),
-        ("half", [_] | [_, _]) => lowest_first(texts, |text| HALF.pattern(text)),
-        ("fixed", [_] | [_, _]) => lowest_first(texts, fixed),
-        ("float20", [one]) => FLOAT20.pattern(one),
-        ("entry", [value, step]) => entry(value, step),
-        ("rgb", _) => Err("rgb takes three numbers, red, green and blue, as rgb(255 255 255)".into()),
-        ("half" | "fixed", _) => Err(format!("{name} takes one number, or two for the registers of x and y")),
-        ("float20", _) => Err("float20 takes one number".into()),
-        ("entry", _) => Err("entry takes a value and a step, as entry(4095 -16)".into()),
-        _ => Err(format!("no value has the form {name}(...): there are rgb, half, fixed, float20 and entry")),
-    }
+fn halves(texts: &[&str]) -> Result<u32, String> {
+    lowest_first(texts, |text| HALF.pattern(text))
 }
 
 /// The word of a list of fields, as `configuration=4 bump=normal`.
@@ -204,32 +197,42 @@ fn fields_text(fields: &[Field], word: u32) -> String {
 
 /// The value of a `write` to one register: a word, a form in brackets, or the register's fields.
 pub fn value(form: Form, text: &str) -> Result<u32, String> {
+    let none = || format!("'{text}' is no value for this register; {}", written(form));
     if let Some((name, rest)) = text.split_once('(') {
         let inside = rest.strip_suffix(')').ok_or("the bracket is not closed at the end of the line")?;
-        let texts: Vec<&str> = inside.split([' ', '\t', ',']).filter(|text| !text.is_empty()).collect();
-        return called(name.trim(), &texts);
+        return match (form, name.trim(), &numbers(inside)[..]) {
+            (Form::Colour, "rgb", texts @ [_, _, _]) => colour(texts),
+            (Form::Halves(most), "half", texts @ [_, ..]) if texts.len() <= most => halves(texts),
+            (Form::Fixed(most), "fixed", texts @ [_, ..]) if texts.len() <= most => lowest_first(texts, fixed),
+            (Form::Float20, "float20", [one]) => FLOAT20.pattern(one),
+            (Form::Entry, "entry", [value, step]) => entry(value, step),
+            _ => Err(none()),
+        };
     }
+    let numeric = |text: &str| text.starts_with(|c: char| c.is_ascii_digit() || "+-.".contains(c));
     let texts: Vec<&str> = text.split_whitespace().collect();
     match (form, &texts[..]) {
-        (_, []) => Err("the value is missing".into()),
-        (_, [one]) if one.starts_with(|c: char| c.is_ascii_digit() || "+-.".contains(c)) => word(one).map_err(|e| e + written(form)),
+        (_, []) => Err(format!("the value is missing; {}", written(form))),
+        (Form::Word | Form::Fields(_), [one]) if numeric(one) => word(one),
+        (_, [one]) if numeric(one) => word(one).map_err(|e| format!("{e}; {}", written(form))),
         (Form::Fields(fields), _) => fielded(fields, &texts),
         (Form::Word, [_, more, ..]) => Err(format!("'{more}' stands after the value")),
-        _ => Err(format!("'{text}' is no value{}", written(form))),
+        _ => Err(none()),
     }
 }
 
-/// What else a register's value can be.
+/// What a register's value can be.
 fn written(form: Form) -> &'static str {
     match form {
-        Form::Colour => "; a colour is rgb(255 128 0)",
-        Form::Halves(2) => "; x and y are half(0.5 -1)",
-        Form::Halves(_) => "; z is half(0.5)",
-        Form::Fixed(2) => "; x and y are fixed(0.5 -1)",
-        Form::Fixed(_) => "; z is fixed(0.5)",
-        Form::Float20 => "; a number is float20(0.25)",
-        Form::Entry => "; a table's entry is entry(4095 -16)",
-        _ => "",
+        Form::Word => "it is a word, as 1 or 0x1",
+        Form::Colour => "a colour is rgb(255 128 0)",
+        Form::Halves(2) => "x and y are half(0.5 -1)",
+        Form::Halves(_) => "z is half(0.5)",
+        Form::Fixed(2) => "x and y are fixed(0.5 -1)",
+        Form::Fixed(_) => "z is fixed(0.5)",
+        Form::Float20 => "a number is float20(0.25)",
+        Form::Entry => "a table's entry is entry(4095 -16)",
+        Form::Fields(_) => "it has names for its fields, or is a word",
     }
 }
 
@@ -261,13 +264,12 @@ pub fn pair_writes(pair: Pair, text: &str) -> Result<[(u32, u32); 2], String> {
     if text.contains('(') {
         return Err("these are plain numbers, without a bracket".into());
     }
-    let texts: Vec<&str> = text.split([' ', '\t', ',']).filter(|text| !text.is_empty()).collect();
-    match (pair, &texts[..]) {
-        (Pair::Position(at), [x, y, z]) => Ok([(at, called("half", &[x, y])?), (at + 1, called("half", &[z])?)]),
+    match (pair, &numbers(text)[..]) {
+        (Pair::Position(at), [x, y, z]) => Ok([(at, halves(&[x, y])?), (at + 1, halves(&[z])?)]),
         (Pair::Position(_), _) => Err("a position is three numbers, x, y and z".into()),
-        (Pair::Spot(at), [x, y, z]) => Ok([(at, called("fixed", &[x, y])?), (at + 1, called("fixed", &[z])?)]),
+        (Pair::Spot(at), [x, y, z]) => Ok([(at, lowest_first(&[x, y], fixed)?), (at + 1, fixed(z)?)]),
         (Pair::Spot(_), _) => Err("a spot direction is three numbers, x, y and z".into()),
-        (Pair::Distance(at), [bias, scale]) => Ok([(at, called("float20", &[bias])?), (at + 1, called("float20", &[scale])?)]),
+        (Pair::Distance(at), [bias, scale]) => Ok([(at, FLOAT20.pattern(bias)?), (at + 1, FLOAT20.pattern(scale)?)]),
         (Pair::Distance(_), _) => Err("a distance is two numbers, the bias and the scale".into()),
         (Pair::Lights, numbers @ [_, ..]) if numbers.len() <= 8 => {
             let slots = numbers.iter().rev().try_fold(0, |slots, number| Ok::<u32, String>(slots << 4 | whole(number, 7)?))?;

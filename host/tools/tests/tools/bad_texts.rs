@@ -7,15 +7,16 @@ use std::fs;
 use std::path::Path;
 
 /// Texts, the line that is wrong, and what is said of it.
-const BAD: [(&str, usize, &str); 67] = [
+const BAD: [(&str, usize, &str); 72] = [
     ("wrtie enable 1", 1, "no line begins with 'wrtie'; is it 'write'?"),
     ("\n# fine\nwrite enable 1\nfrobnicate", 4, "no line begins with 'frobnicate'"),
     ("lights 0 1", 1, "a register is set by 'write lights ...'"),
     ("light0.diffuse rgb(1 2 3)", 1, "a register is set by 'write light0.diffuse ...'"),
     ("write", 1, "a write has a register and a value"),
-    ("write enable", 1, "the value is missing"),
+    ("write enable", 1, "the value is missing; it is a word, as 1 or 0x1"),
+    ("write light0.diffuse #FF8000", 1, "the value is missing; a colour is rgb(255 128 0)"),
     ("write enable 1 2", 1, "'2' stands after the value"),
-    ("write enable yes", 1, "'yes' is no value"),
+    ("write enable yes", 1, "'yes' is no value for this register; it is a word, as 1 or 0x1"),
     ("write enable -1", 1, "'-1' is no word: a word is 0 to 4294967295, or 0x0 to 0xFFFFFFFF"),
     ("write enable 4294967296", 1, "'4294967296' is no word"),
     ("write enable 0x", 1, "'0x' is no word"),
@@ -26,11 +27,15 @@ const BAD: [(&str, usize, &str); 67] = [
     ("write lihgt0.diffuse 1", 1, "no register is called 'lihgt0.diffuse'; is it light0.diffuse?"),
     ("write light8.diffuse 1", 1, "no register is called 'light8.diffuse'"),
     ("write x 1", 1, "no register is called 'x'"),
-    ("write light0.diffuse 255 128 0", 1, "'255 128 0' is no value; a colour is rgb(255 128 0)"),
-    ("write light0.diffuse rgb(255 128)", 1, "rgb takes three numbers"),
+    ("write light0.diffuse 255 128 0", 1, "'255 128 0' is no value for this register; a colour is rgb(255 128 0)"),
+    ("write light0.diffuse rgb(255 128)", 1, "'rgb(255 128)' is no value for this register; a colour is rgb(255 128 0)"),
     ("write light0.diffuse rgb(255 128 1024)", 1, "'1024' is not a whole number from 0 to 1023"),
     ("write light0.diffuse rgb(255 128 0", 1, "the bracket is not closed"),
-    ("write light0.diffuse hsv(1 2 3)", 1, "no value has the form hsv(...)"),
+    ("write light0.diffuse hsv(1 2 3)", 1, "'hsv(1 2 3)' is no value for this register; a colour is rgb(255 128 0)"),
+    ("write light0.diffuse half(1 2)", 1, "'half(1 2)' is no value for this register; a colour is rgb(255 128 0)"),
+    ("write light0.position_z half(1 2)", 1, "'half(1 2)' is no value for this register; z is half(0.5)"),
+    ("write enable rgb(255 0 0)", 1, "'rgb(255 0 0)' is no value for this register; it is a word, as 1 or 0x1"),
+    ("write config0 rgb(255 0 0)", 1, "'rgb(255 0 0)' is no value for this register; it has names for its fields, or is a word"),
     ("write light0.position_z 0.5", 1, "'0.5' is no word: a word is 0 to 4294967295, or 0x0 to 0xFFFFFFFF; z is half(0.5)"),
     ("write light0.position_z half(1e9)", 1, "1e9 is above 65504, the largest half"),
     ("write light0.position_z half(nan)", 1, "'nan' is not a number"),

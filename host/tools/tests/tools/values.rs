@@ -109,18 +109,18 @@ fn every_pattern_of_a_form_is_printed_readably() {
 /// A number between two of a form becomes the nearer, and of two as near the even one.
 #[test]
 fn numbers_are_rounded_to_the_nearest() {
-    for (text, word) in [
-        ("half(1.00048828125)", 0x3C00),
-        ("half(1.0004883)", 0x3C01),
-        ("half(1.00146484375)", 0x3C02),
-        ("half(0.0000152)", 0x0000),
-        ("half(0.0000153)", 0x0001),
-        ("float20(1.0001220703125)", 0x3F000),
-        ("float20(1.0001221)", 0x3F001),
-        ("fixed(0.0002442)", 0),
-        ("fixed(0.0002443)", 1),
+    for (form, text, word) in [
+        (Form::Halves(1), "half(1.00048828125)", 0x3C00),
+        (Form::Halves(1), "half(1.0004883)", 0x3C01),
+        (Form::Halves(1), "half(1.00146484375)", 0x3C02),
+        (Form::Halves(1), "half(0.0000152)", 0x0000),
+        (Form::Halves(1), "half(0.0000153)", 0x0001),
+        (Form::Float20, "float20(1.0001220703125)", 0x3F000),
+        (Form::Float20, "float20(1.0001221)", 0x3F001),
+        (Form::Fixed(1), "fixed(0.0002442)", 0),
+        (Form::Fixed(1), "fixed(0.0002443)", 1),
     ] {
-        assert_eq!(value(Form::Word, text), Ok(word), "{text}");
+        assert_eq!(value(form, text), Ok(word), "{text}");
     }
 }
 
