@@ -32,13 +32,13 @@ pub fn pack(text: &str, folder: &Path) -> Result<Vec<Body>, Wrong> {
     Ok(packer.bodies)
 }
 
-/// The bodies of a text's file; what is wrong is said with the file's name, and the line where there is one.
+/// The bodies of a text's file; what is wrong is said with the file's name and the line.
 pub fn pack_file(input: &Input) -> Result<Vec<Body>, String> {
     let Input { name, folder, bytes } = input;
-    if bytes.contains(&0) {
-        return Err(format!("{name}: this is no text; if it is a capture, 'capture unpack' gives its text"));
+    let line = |at: usize| 1 + bytes[..at].iter().filter(|byte| **byte == b'\n').count();
+    if let Some(at) = bytes.iter().position(|byte| *byte == 0) {
+        return Err(format!("{name}:{}: a byte is 0, so this is no text; if it is a capture, 'capture unpack' gives its text", line(at)));
     }
-    let line = |valid: usize| 1 + bytes[..valid].iter().filter(|byte| **byte == b'\n').count();
     let text = std::str::from_utf8(bytes).map_err(|e| format!("{name}:{}: the line is not UTF-8", line(e.valid_up_to())))?;
     pack(text, folder).map_err(|wrong| format!("{name}:{}: {}", wrong.line, wrong.what))
 }

@@ -119,6 +119,8 @@ fn other_files_are_told_apart() {
     let output = capture("pack", &folder.file("a.capture", input));
     assert!(output.status.code() == Some(1) && output.stdout.is_empty());
     assert!(errors(&output).contains("if it is a capture, 'capture unpack' gives its text"));
+    let output = capture("pack", &folder.file("a.txt", "write enable 1\nwrite \0enable 1\n"));
+    assert!(output.status.code() == Some(1) && errors(&output).contains("a.txt:2: a byte is 0, so this is no text"));
     let output = capture("unpack", &folder.file("a.txt", "write enable 1\n"));
     assert!(output.status.code() == Some(1) && errors(&output).contains("this looks like a text; 'capture pack' makes a capture of it"));
     let output = capture("pack", &folder.file("a.txt", b"write enable 1\nwrite \xFF 1\n"));
