@@ -27,9 +27,18 @@ pub fn pack(text: &str, folder: &Path) -> Result<Vec<Body>, Wrong> {
     let mut packer = Packer { bodies: vec![], folder };
     for (at, line) in text.trim_start_matches('\u{FEFF}').lines().enumerate() {
         let line = line.split_once('#').map_or(line, |(before, _)| before).trim();
-        packer.line(line).map_err(|what| Wrong { line: at + 1, what })?;
+        packer.line(line).map_err(|what| Wrong { line: at + 1, what: shown(&what) })?;
     }
     Ok(packer.bodies)
+}
+
+/// What is said of a line: without the characters that steer a terminal, and of an endless word only its ends.
+fn shown(what: &str) -> String {
+    let letters: Vec<char> = what.chars().map(|c| if c.is_control() { '?' } else { c }).collect();
+    match letters.len() {
+        0..=400 => letters.iter().collect(),
+        length => letters[..200].iter().chain(&[' ', '.', '.', '.', ' ']).chain(&letters[length - 200..]).collect(),
+    }
 }
 
 /// The bodies of a text's file; what is wrong is said with the file's name and the line.

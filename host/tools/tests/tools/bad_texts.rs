@@ -112,6 +112,18 @@ fn a_text_that_grows_too_large_says_where() {
     assert!(said("hand over\n".repeat(17)).contains("scene.txt:17: this line begins a seventeenth body"));
 }
 
+/// However long a word is, and whatever stands in it, what is said of it can be read.
+#[test]
+fn an_endless_word_is_said_shortly() {
+    let said = |line: &str| pack(line, Path::new("")).unwrap_err().what;
+    let endless = "a".repeat(1_000_000);
+    for line in ["write {} 1", "write enable {}", "write config0 {}", "{}", "fragment 0 0 0 {}", "upload {} constant 1", "restore file {}"] {
+        let said = said(&line.replace("{}", &endless));
+        assert!(said.contains("aaa ... ") && said.chars().count() < 500, "{said}");
+    }
+    assert_eq!(said("write \x1B[2J 1"), "no register is called '?[2J'");
+}
+
 #[test]
 fn other_files_are_told_apart() {
     let folder = Folder::new();
