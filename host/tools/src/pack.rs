@@ -53,7 +53,7 @@ pub fn pack_file(input: &Input) -> Result<Vec<Body>, String> {
 }
 
 /// What a line can begin with.
-const LINES: [&str; 8] = ["write", "writes", "upload", "fragment", "hand", "restore", "table", "entries"];
+const LINES: [&str; 8] = ["write", "writes", "upload", "fragment", "hand over", "restore", "table", "entries"];
 
 /// A fragment's parts and how many numbers each has.
 const PARTS: [(&str, usize); 6] = [("the quaternion", 4), ("the view", 3), ("texel 0", 4), ("texel 1", 4), ("texel 2", 4), ("texel 3", 4)];

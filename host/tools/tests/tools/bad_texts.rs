@@ -7,7 +7,7 @@ use std::fs;
 use std::path::Path;
 
 /// Texts, the line that is wrong, and what is said of it.
-const BAD: [(&str, usize, &str); 72] = [
+const BAD: [(&str, usize, &str); 73] = [
     ("wrtie enable 1", 1, "no line begins with 'wrtie'; is it 'write'?"),
     ("\n# fine\nwrite enable 1\nfrobnicate", 4, "no line begins with 'frobnicate'"),
     ("lights 0 1", 1, "a register is set by 'write lights ...'"),
@@ -55,7 +55,8 @@ const BAD: [(&str, usize, &str); 72] = [
     ("write table_data entry(4096 0)", 1, "'4096' is not a whole number from 0 to 4095"),
     ("write table_data entry(0 2048)", 1, "'2048' is not a whole number from -2047 to 2047"),
     ("writes 3", 1, "'3' stands after 'writes'"),
-    ("hand-over", 1, "no line begins with 'hand-over'"),
+    ("hand-over", 1, "no line begins with 'hand-over'; is it 'hand over'?"),
+    ("handover", 1, "no line begins with 'handover'; is it 'hand over'?"),
     ("hand over 2", 1, "the line is 'hand over', without a number"),
     ("fragment 0 0 0", 1, "here are 3"),
     ("fragment 0 0 0 1, 0 0", 1, "the view has 3 numbers; here are 2"),
