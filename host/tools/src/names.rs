@@ -1,5 +1,6 @@
 //! The registers, tables and fields by name, as decoding reads them.
 
+use crate::values::whole;
 use std::sync::OnceLock;
 
 /// Registers are numbered below this.
@@ -99,45 +100,41 @@ pub fn pair(name: &str) -> Option<Pair> {
     pairs().iter().find(|(known, _)| known == name).map(|(_, pair)| *pair)
 }
 
-/// A table's name; tables 2 and 7 are never read and have none.
-pub const TABLE_NAMES: [&str; TABLES] = [
-    "distribution0",
-    "distribution1",
-    "",
-    "fresnel",
-    "reflect_blue",
-    "reflect_green",
-    "reflect_red",
-    "",
-    "spot0",
-    "spot1",
-    "spot2",
-    "spot3",
-    "spot4",
-    "spot5",
-    "spot6",
-    "spot7",
-    "distance0",
-    "distance1",
-    "distance2",
-    "distance3",
-    "distance4",
-    "distance5",
-    "distance6",
-    "distance7",
+/// The tables' names and numbers; tables 2 and 7 are never read and have no name.
+pub const TABLE_NAMES: [(&str, u32); 22] = [
+    ("distribution0", 0),
+    ("distribution1", 1),
+    ("fresnel", 3),
+    ("reflect_blue", 4),
+    ("reflect_green", 5),
+    ("reflect_red", 6),
+    ("spot0", 8),
+    ("spot1", 9),
+    ("spot2", 10),
+    ("spot3", 11),
+    ("spot4", 12),
+    ("spot5", 13),
+    ("spot6", 14),
+    ("spot7", 15),
+    ("distance0", 16),
+    ("distance1", 17),
+    ("distance2", 18),
+    ("distance3", 19),
+    ("distance4", 20),
+    ("distance5", 21),
+    ("distance6", 22),
+    ("distance7", 23),
 ];
 
 /// A table by its name or its number.
 pub fn table(text: &str) -> Option<usize> {
-    let numbered = || text.parse().ok().filter(|at| *at < TABLES);
-    TABLE_NAMES.iter().position(|name| !name.is_empty() && *name == text).or_else(numbered)
+    let named = TABLE_NAMES.iter().find(|(name, _)| *name == text).map(|(_, at)| *at);
+    named.or_else(|| whole(text, TABLES as u32 - 1).ok()).map(|at| at as usize)
 }
 
 pub fn table_text(table: usize) -> String {
-    match TABLE_NAMES.get(table) {
-        Some(name) if !name.is_empty() => name.to_string(),
-        _ => table.to_string(),
-    }
+    let named = TABLE_NAMES.iter().find(|(_, at)| *at as usize == table);
+    named.map_or_else(|| table.to_string(), |(name, _)| name.to_string())
 }
 
 /// A part of a register's word.
@@ -224,32 +221,7 @@ const CONFIG1: [Field; 34] = [
     flag("no_distance7", 31),
 ];
 
-const TABLE_NUMBERS: [(&str, u32); 22] = [
-    ("distribution0", 0),
-    ("distribution1", 1),
-    ("fresnel", 3),
-    ("reflect_blue", 4),
-    ("reflect_green", 5),
-    ("reflect_red", 6),
-    ("spot0", 8),
-    ("spot1", 9),
-    ("spot2", 10),
-    ("spot3", 11),
-    ("spot4", 12),
-    ("spot5", 13),
-    ("spot6", 14),
-    ("spot7", 15),
-    ("distance0", 16),
-    ("distance1", 17),
-    ("distance2", 18),
-    ("distance3", 19),
-    ("distance4", 20),
-    ("distance5", 21),
-    ("distance6", 22),
-    ("distance7", 23),
-];
-
-const INDEX: [Field; 2] = [number("table", 8, 5, &TABLE_NUMBERS), number("entry", 0, 8, &[])];
+const INDEX: [Field; 2] = [number("table", 8, 5, &TABLE_NAMES), number("entry", 0, 8, &[])];
 
 const SIGNED: [Field; 7] = [
     flag("signed_distribution0", 1),

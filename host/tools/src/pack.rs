@@ -210,8 +210,8 @@ fn register(name: &str) -> Result<u32, String> {
 
 fn table(name: &str) -> Result<usize, String> {
     names::table(name).ok_or_else(|| {
-        let near = nearest(name, names::TABLE_NAMES.iter()).filter(|near| !near.is_empty());
-        format!("no table is called '{name}'{}", near.map_or(String::new(), |near| format!("; is it {near}?")))
+        let near = nearest(name, names::TABLE_NAMES.iter().map(|(name, _)| name)).map_or(String::new(), |near| format!("; is it {near}?"));
+        format!("no table is called '{name}'{near}")
     })
 }
 

@@ -7,7 +7,7 @@ use std::fs;
 use std::path::Path;
 
 /// Texts, the line that is wrong, and what is said of it.
-const BAD: [(&str, usize, &str); 73] = [
+const BAD: [(&str, usize, &str); 74] = [
     ("wrtie enable 1", 1, "no line begins with 'wrtie'; is it 'write'?"),
     ("\n# fine\nwrite enable 1\nfrobnicate", 4, "no line begins with 'frobnicate'"),
     ("lights 0 1", 1, "a register is set by 'write lights ...'"),
@@ -72,6 +72,7 @@ const BAD: [(&str, usize, &str); 73] = [
     ("write enable 1\ntable spot0 constant 1", 2, "the line belongs below a 'restore'"),
     ("restore\ntable spt0 constant 1", 2, "no table is called 'spt0'; is it spot0?"),
     ("restore\ntable 24 constant 1", 2, "no table is called '24'"),
+    ("restore\ntable +5 constant 1", 2, "no table is called '+5'"),
     ("restore\ntable spot0", 2, "the curve is missing"),
     ("restore\ntable spot0 wave 1", 2, "no curve is called 'wave'"),
     ("restore\ntable spot0 ramp 1", 2, "ramp takes two numbers"),

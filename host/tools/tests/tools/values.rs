@@ -186,6 +186,8 @@ fn an_upload_is_257_writes() {
         assert_eq!(*register, 0x1C8);
         assert_eq!((word & 0xFFF, word >> 12), (value as u32, ((next - value) * 2047.0 / 4095.0).round() as u32));
     }
+    assert_eq!(writes("upload 17 ramp 0 1"), all);
+    assert_eq!(writes("upload 0x11 ramp 0 1"), all);
     let falling = writes("upload 0 ramp 1 0");
     assert!(falling[1..].iter().all(|[_, word]| word >> 23 == 1));
     assert_eq!(falling[1][1], 0x0080_8FFF);
