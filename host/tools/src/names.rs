@@ -292,14 +292,14 @@ pub fn form(register: u32) -> Form {
     }
 }
 
-/// The known word that is nearest to a mistaken one, if it is near.
-pub fn nearest<S: AsRef<str>>(text: &str, known: impl Iterator<Item = S>) -> Option<String> {
+/// A hint at the known word that is nearest to a mistaken one, if it is near; otherwise nothing.
+pub fn hint<S: AsRef<str>>(text: &str, known: impl Iterator<Item = S>) -> String {
     let length = text.chars().count();
     let most = if length < 4 { 1 } else { (length / 3).max(2) };
     // a word of another length is as far at least as they differ
     let known = known.filter(|word| word.as_ref().len().abs_diff(length) <= most);
     let near = known.map(|word| (distance(text, word.as_ref()), word)).filter(|(far, _)| *far <= most);
-    near.min_by_key(|(far, _)| *far).map(|(_, word)| word.as_ref().to_string())
+    near.min_by_key(|(far, _)| *far).map_or(String::new(), |(_, word)| format!("; is it '{}'?", word.as_ref()))
 }
 
 /// How many letters have to be put in, taken out or changed.

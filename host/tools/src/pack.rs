@@ -3,7 +3,7 @@
 use crate::bodies::{total_words, words, Body, Kind, FRAGMENT_WORDS, MOST_BODIES, MOST_WORDS, RESTORE_WORDS};
 use crate::curves::Curve;
 use crate::files::Input;
-use crate::names::{self, nearest, REGISTERS, TABLE_DATA, TABLE_INDEX};
+use crate::names::{self, hint, REGISTERS, TABLE_DATA, TABLE_INDEX, TABLE_NAMES};
 use crate::values::{float, pair_writes, value, whole, word};
 use std::fmt;
 use std::fs;
@@ -84,10 +84,7 @@ impl Packer<'_> {
             other if names::register(other).is_some() || names::pair(other).is_some() => {
                 return Err(format!("a register is set by 'write {other} ...'"));
             }
-            other => {
-                let near = nearest(other, LINES.iter()).map_or(String::new(), |near| format!("; is it '{near}'?"));
-                return Err(format!("no line begins with '{other}'{near}"));
-            }
+            other => return Err(format!("no line begins with '{other}'{}", hint(other, LINES.iter()))),
         }
         match total_words(&self.bodies) {
             total if total > MOST_WORDS => Err(format!("with this line the capture has {} bytes, and 65536 is the most", 4 * total)),
@@ -203,16 +200,13 @@ fn register(name: &str) -> Result<u32, String> {
     let name = if name == "table_data0" { "table_data" } else { name };
     names::register(name).ok_or_else(|| {
         let known = names::registers().iter().map(|(name, _)| name).chain(names::pairs().iter().map(|(name, _)| name));
-        let near = nearest(name, known).map_or(String::new(), |near| format!("; is it {near}?"));
-        format!("no register is called '{name}'{near}")
+        format!("no register is called '{name}'{}", hint(name, known))
     })
 }
 
 fn table(name: &str) -> Result<usize, String> {
-    names::table(name).ok_or_else(|| {
-        let near = nearest(name, names::TABLE_NAMES.iter().map(|(name, _)| name)).map_or(String::new(), |near| format!("; is it {near}?"));
-        format!("no table is called '{name}'{near}")
-    })
+    let known = TABLE_NAMES.iter().map(|(name, _)| name);
+    names::table(name).ok_or_else(|| format!("no table is called '{name}'{}", hint(name, known)))
 }
 
 /// A table and the curve for it.

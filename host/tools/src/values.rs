@@ -2,7 +2,7 @@
 //!
 //! A form is printed only where reading it gives the same bits back; elsewhere the word is printed in hexadecimal.
 
-use crate::names::{nearest, Field, Form, Pair, LIGHT_COUNT, SLOTS};
+use crate::names::{hint, Field, Form, Pair, LIGHT_COUNT, SLOTS};
 
 /// A word: decimal, or hexadecimal after 0x.
 pub fn word(text: &str) -> Result<u32, String> {
@@ -155,8 +155,7 @@ fn fielded(fields: &[Field], texts: &[&str]) -> Result<u32, String> {
     for text in texts {
         let (name, value) = text.split_once('=').map_or((*text, None), |(name, value)| (name, Some(value)));
         let Some(field) = fields.iter().find(|field| field.name == name) else {
-            let near = nearest(name, fields.iter().map(|field| field.name)).map_or(String::new(), |near| format!("; is it {near}?"));
-            return Err(format!("the register has no field '{name}'{near}"));
+            return Err(format!("the register has no field '{name}'{}", hint(name, fields.iter().map(|field| field.name))));
         };
         if taken & field.mask() != 0 {
             return Err(format!("{name} sets a bit that is set before it on the line"));

@@ -34,7 +34,7 @@ fn the_standard_input_is_read() {
     assert!(drawn.status.success() && folder.0.join("out.png").is_file(), "{}", errors(&drawn));
     folder.file("wrong.txt", "write enable 1\nwrite enabel 1\n");
     let wrong = run(PICTURE, &folder, &words(&["-", "wrong.png"]), "wrong.txt");
-    assert_eq!(errors(&wrong), "standard input:2: no register is called 'enabel'; is it enable?\n");
+    assert_eq!(errors(&wrong), "standard input:2: no register is called 'enabel'; is it 'enable'?\n");
     assert!(wrong.status.code() == Some(1) && !folder.0.join("wrong.png").exists());
     // a restore's file is then looked for where the program runs
     folder.file("saved.tables", [7; 49_152]);
