@@ -13,62 +13,82 @@ pub const TABLE_INDEX: u32 = 0x1C5;
 pub const LIGHT_COUNT: u32 = 0x1C2;
 pub const SLOTS: u32 = 0x1D9;
 
-const SINGLE: [(&str, u32); 19] = [
-    ("enable", 0x08F),
-    ("global_ambient", 0x1C0),
-    ("light_count", LIGHT_COUNT),
-    ("config0", 0x1C3),
-    ("config1", 0x1C4),
-    ("table_index", TABLE_INDEX),
-    ("disable", 0x1C6),
-    ("table_data", TABLE_DATA),
-    ("table_data1", TABLE_DATA + 1),
-    ("table_data2", TABLE_DATA + 2),
-    ("table_data3", TABLE_DATA + 3),
-    ("table_data4", TABLE_DATA + 4),
-    ("table_data5", TABLE_DATA + 5),
-    ("table_data6", TABLE_DATA + 6),
-    ("table_data7", TABLE_DATA + 7),
-    ("table_absolute", 0x1D0),
-    ("table_input", 0x1D1),
-    ("table_scale", 0x1D2),
-    ("slots", SLOTS),
+/// Registers that stand alone: the name, the number, and how the word is read.
+const SINGLE: [(&str, u32, Form); 20] = [
+    ("enable", 0x08F, Form::Word),
+    ("global_ambient", 0x1C0, Form::Colour),
+    ("light_count", LIGHT_COUNT, Form::Word),
+    ("config0", 0x1C3, Form::Fields(&CONFIG0)),
+    ("config1", 0x1C4, Form::Fields(&CONFIG1)),
+    ("table_index", TABLE_INDEX, Form::Fields(&INDEX)),
+    ("disable", 0x1C6, Form::Word),
+    ("table_data", TABLE_DATA, Form::Entry),
+    // the eight are alike, so the first may carry its number, too
+    ("table_data0", TABLE_DATA, Form::Entry),
+    ("table_data1", TABLE_DATA + 1, Form::Entry),
+    ("table_data2", TABLE_DATA + 2, Form::Entry),
+    ("table_data3", TABLE_DATA + 3, Form::Entry),
+    ("table_data4", TABLE_DATA + 4, Form::Entry),
+    ("table_data5", TABLE_DATA + 5, Form::Entry),
+    ("table_data6", TABLE_DATA + 6, Form::Entry),
+    ("table_data7", TABLE_DATA + 7, Form::Entry),
+    ("table_absolute", 0x1D0, Form::Fields(&SIGNED)),
+    ("table_input", 0x1D1, Form::Fields(&INPUT)),
+    ("table_scale", 0x1D2, Form::Fields(&SCALE)),
+    ("slots", SLOTS, Form::Word),
 ];
 
-/// What stands where in a light's sixteen registers.
-const OF_A_LIGHT: [(&str, u32); 11] = [
-    ("specular0", 0x0),
-    ("specular1", 0x1),
-    ("diffuse", 0x2),
-    ("ambient", 0x3),
-    ("position_xy", 0x4),
-    ("position_z", 0x5),
-    ("spot_xy", 0x6),
-    ("spot_z", 0x7),
-    ("flags", 0x9),
-    ("distance_bias", 0xA),
-    ("distance_scale", 0xB),
+/// What stands where in a light's sixteen registers, and how the word is read.
+const OF_A_LIGHT: [(&str, u32, Form); 11] = [
+    ("specular0", 0x0, Form::Colour),
+    ("specular1", 0x1, Form::Colour),
+    ("diffuse", 0x2, Form::Colour),
+    ("ambient", 0x3, Form::Colour),
+    ("position_xy", 0x4, Form::Halves(2)),
+    ("position_z", 0x5, Form::Halves(1)),
+    ("spot_xy", 0x6, Form::Fixed(2)),
+    ("spot_z", 0x7, Form::Fixed(1)),
+    ("flags", 0x9, Form::Fields(&LIGHT_FLAGS)),
+    ("distance_bias", 0xA, Form::Float20),
+    ("distance_scale", 0xB, Form::Float20),
 ];
 
 fn light(number: u32) -> u32 {
     0x140 + 0x10 * number
 }
 
-/// Every register that has a name, with it.
-pub fn registers() -> &'static [(String, u32)] {
-    static NAMED: OnceLock<Vec<(String, u32)>> = OnceLock::new();
+/// A register that has a name.
+pub struct Register {
+    pub name: String,
+    pub number: u32,
+    pub form: Form,
+}
+
+pub fn registers() -> &'static [Register] {
+    static NAMED: OnceLock<Vec<Register>> = OnceLock::new();
     NAMED.get_or_init(|| {
-        let lights = (0..8).flat_map(|n| OF_A_LIGHT.iter().map(move |(part, at)| (format!("light{n}.{part}"), light(n) + at)));
-        SINGLE.iter().map(|(name, at)| (name.to_string(), *at)).chain(lights).collect()
+        let single = SINGLE.iter().map(|(name, number, form)| Register { name: name.to_string(), number: *number, form: *form });
+        let of_a_light =
+            |n: u32| OF_A_LIGHT.iter().map(move |(part, at, form)| Register { name: format!("light{n}.{part}"), number: light(n) + at, form: *form });
+        single.chain((0..8).flat_map(of_a_light)).collect()
     })
 }
 
 pub fn register(name: &str) -> Option<u32> {
-    registers().iter().find(|(known, _)| known == name).map(|(_, at)| *at)
+    registers().iter().find(|register| register.name == name).map(|register| register.number)
 }
 
-pub fn register_name(register: u32) -> Option<&'static str> {
-    registers().iter().find(|(_, at)| *at == register).map(|(name, _)| name.as_str())
+fn numbered(number: u32) -> Option<&'static Register> {
+    registers().iter().find(|register| register.number == number)
+}
+
+pub fn register_name(number: u32) -> Option<&'static str> {
+    numbered(number).map(|register| register.name.as_str())
+}
+
+/// How a register's word is best read.
+pub fn form(number: u32) -> Form {
+    numbered(number).map_or(Form::Word, |register| register.form)
 }
 
 /// Names that stand for two registers, written one after the other.
@@ -251,10 +271,10 @@ const fn by_table(numbers: &'static [(&'static str, u32)]) -> [Field; 7] {
     ]
 }
 
-static INPUT: [Field; 7] = by_table(&INPUTS);
-static SCALE: [Field; 7] = by_table(&SCALES);
+const INPUT: [Field; 7] = by_table(&INPUTS);
+const SCALE: [Field; 7] = by_table(&SCALES);
 
-/// How a register's word is best read.
+/// How a word is best read.
 #[derive(Clone, Copy, Debug)]
 pub enum Form {
     Word,
@@ -266,30 +286,6 @@ pub enum Form {
     Float20,
     Entry,
     Fields(&'static [Field]),
-}
-
-pub fn form(register: u32) -> Form {
-    match register {
-        0x140..0x1C0 => match register & 0xF {
-            0x0..=0x3 => Form::Colour,
-            0x4 => Form::Halves(2),
-            0x5 => Form::Halves(1),
-            0x6 => Form::Fixed(2),
-            0x7 => Form::Fixed(1),
-            0x9 => Form::Fields(&LIGHT_FLAGS),
-            0xA | 0xB => Form::Float20,
-            _ => Form::Word,
-        },
-        0x1C0 => Form::Colour,
-        0x1C3 => Form::Fields(&CONFIG0),
-        0x1C4 => Form::Fields(&CONFIG1),
-        TABLE_INDEX => Form::Fields(&INDEX),
-        0x1C8..=0x1CF => Form::Entry,
-        0x1D0 => Form::Fields(&SIGNED),
-        0x1D1 => Form::Fields(&INPUT),
-        0x1D2 => Form::Fields(&SCALE),
-        _ => Form::Word,
-    }
 }
 
 /// A hint at the known word that is nearest to a mistaken one, if it is near; otherwise nothing.

@@ -196,10 +196,8 @@ fn register(name: &str) -> Result<u32, String> {
             register => Err(format!("register {register} is above 473 (0x1D9), the last")),
         };
     }
-    // the eight are alike, so the first may carry its number
-    let name = if name == "table_data0" { "table_data" } else { name };
     names::register(name).ok_or_else(|| {
-        let known = names::registers().iter().map(|(name, _)| name).chain(names::pairs().iter().map(|(name, _)| name));
+        let known = names::registers().iter().map(|register| &register.name).chain(names::pairs().iter().map(|(name, _)| name));
         format!("no register is called '{name}'{}", hint(name, known))
     })
 }

@@ -1,7 +1,7 @@
 use super::{errors, lightshow, picture, repository, Folder};
 use lighting_tools::bodies::bytes;
 use lighting_tools::drawing::run;
-use lighting_tools::names::{form, pairs, registers, Form, TABLE_NAMES};
+use lighting_tools::names::{pairs, registers, Form, Register, TABLE_NAMES};
 use lighting_tools::pack::pack;
 use std::fs;
 use std::path::Path;
@@ -77,12 +77,12 @@ fn the_page_has_every_name() {
     let shown = |name: &str| page.contains(&format!("`{name}`")) || page.contains(&format!("`{name}="));
     let numbered =
         |name: &str| name.strip_suffix(|c: char| c.is_ascii_digit()).is_some_and(|name| [0, 7].iter().all(|n| shown(&format!("{name}{n}"))));
-    for (name, register) in registers() {
+    for Register { name, form, .. } in registers() {
         let part = name.strip_prefix("light").and_then(|rest| rest.split_once('.')).map(|(_, part)| format!(".{part}"));
         let here = shown(name) || part.is_some_and(|part| shown(&part) || shown(&format!("light0{part}"))) || name.starts_with("table_data");
         assert!(here, "{name}");
-        if let Form::Fields(fields) = form(*register) {
-            for field in fields {
+        if let Form::Fields(fields) = form {
+            for field in *fields {
                 assert!(shown(field.name) || numbered(field.name), "{}", field.name);
                 for (number, _) in field.numbers.unwrap_or(&[]) {
                     let table = TABLE_NAMES.iter().any(|(name, _)| name == number);
