@@ -1,10 +1,16 @@
 //! A capture's bodies, and the places where a file is no capture.
 
+use std::ops::Range;
+
 /// The largest capture, in words.
 pub const MOST_WORDS: usize = 16_384;
 pub const MOST_BODIES: usize = 16;
 pub const FRAGMENT_WORDS: usize = 23;
 pub const RESTORE_WORDS: usize = 12_288;
+
+/// A fragment's parts and their words.
+pub const PARTS: [(&str, Range<usize>); 6] =
+    [("the quaternion", 0..4), ("the view", 4..7), ("texel 0", 7..11), ("texel 1", 11..15), ("texel 2", 15..19), ("texel 3", 19..23)];
 
 #[derive(Clone, Copy, Debug, PartialEq, Eq)]
 pub enum Kind {

@@ -1,6 +1,6 @@
 //! From a text to the bodies of a capture.
 
-use crate::bodies::{total_words, words, Body, Kind, FRAGMENT_WORDS, MOST_BODIES, MOST_WORDS, RESTORE_WORDS};
+use crate::bodies::{total_words, words, Body, Kind, FRAGMENT_WORDS, MOST_BODIES, MOST_WORDS, PARTS, RESTORE_WORDS};
 use crate::curves::Curve;
 use crate::files::Input;
 use crate::names::{self, hint, REGISTERS, TABLE_DATA, TABLE_INDEX, TABLE_NAMES};
@@ -54,9 +54,6 @@ pub fn pack_file(input: &Input) -> Result<Vec<Body>, String> {
 
 /// What a line can begin with.
 const LINES: [&str; 8] = ["write", "writes", "upload", "fragment", "hand over", "restore", "table", "entries"];
-
-/// A fragment's parts and how many numbers each has.
-const PARTS: [(&str, usize); 6] = [("the quaternion", 4), ("the view", 3), ("texel 0", 4), ("texel 1", 4), ("texel 2", 4), ("texel 3", 4)];
 
 struct Packer<'a> {
     bodies: Vec<Body>,
@@ -221,19 +218,17 @@ fn fragment(rest: &str) -> Result<[u32; FRAGMENT_WORDS], String> {
     let mut numbers: Vec<&str> = vec![];
     if rest.contains(',') {
         for (i, part) in rest.split(',').enumerate() {
-            let before = numbers.len();
+            let (name, place) = PARTS.get(i).ok_or("a fragment has six parts: quaternion, view and four texels")?;
             numbers.extend(part.split_whitespace());
-            let (name, wanted) = PARTS.get(i).ok_or("a fragment has six parts: quaternion, view and four texels")?;
-            match numbers.len() - before {
-                count if count == *wanted => (),
-                count => return Err(format!("{name} has {wanted} numbers; here are {count}")),
+            if numbers.len() != place.end {
+                return Err(format!("{name} has {} numbers, not {}", place.len(), numbers.len() - place.start));
             }
         }
     } else {
         numbers.extend(rest.split_whitespace());
-        if ![0, 4, 7, 11, 15, 19, 23].contains(&numbers.len()) {
+        if !numbers.is_empty() && PARTS.iter().all(|(_, place)| place.end != numbers.len()) {
             let parts = "4 numbers for the quaternion, 3 for the view and 4 for each of four texels";
-            return Err(format!("a fragment has {parts}; here are {}", numbers.len()));
+            return Err(format!("a fragment has {parts}, in all 4, 7, 11, 15, 19 or 23, not {}", numbers.len()));
         }
     }
     let mut words = [0; FRAGMENT_WORDS];

@@ -1,6 +1,6 @@
 //! From a capture's bytes to its text.
 
-use crate::bodies::{layout, Body, Break, Kind, FRAGMENT_WORDS};
+use crate::bodies::{layout, Body, Break, Kind, FRAGMENT_WORDS, PARTS};
 use crate::names::{form, register_name, table_text, REGISTERS};
 use crate::values::{float_text, value_text};
 use std::fmt::Write;
@@ -64,10 +64,10 @@ fn write_line(register: u32, value: u32) -> String {
 
 /// Quaternion and view, and the texels as far as they are not zero.
 fn fragment_line(words: &[u32]) -> String {
-    let parts = [0..4, 4..7, 7..11, 11..15, 15..19, 19..23];
-    let last = parts.iter().rposition(|part| words[part.clone()].iter().any(|word| *word != 0)).unwrap_or(0).max(1);
-    let part = |part: &std::ops::Range<usize>| words[part.clone()].iter().map(|word| float_text(*word)).collect::<Vec<_>>().join(" ");
-    format!("fragment {}\n", parts[..=last].iter().map(part).collect::<Vec<_>>().join(", "))
+    let parts = PARTS.map(|(_, place)| &words[place]);
+    let last = parts.iter().rposition(|part| part.iter().any(|word| *word != 0)).unwrap_or(0).max(1);
+    let texts = parts[..=last].iter().map(|part| part.iter().map(|word| float_text(*word)).collect::<Vec<_>>().join(" "));
+    format!("fragment {}\n", texts.collect::<Vec<_>>().join(", "))
 }
 
 /// A table's entries that are not zero: runs of equal ones by their ends, others four in a line.
