@@ -68,8 +68,8 @@ impl Packer<'_> {
             "" => return Ok(()),
             "write" => self.write(rest)?,
             "upload" => self.upload(rest)?,
-            "writes" => alone("writes").and_then(|()| self.begin(Kind::Writes))?,
-            "hand" if rest == "over" => self.begin(Kind::Fragments)?,
+            "writes" => alone("writes").and_then(|()| self.begin(Kind::Writes, vec![]))?,
+            "hand" if rest == "over" => self.begin(Kind::Fragments, vec![])?,
             "hand" => return Err("the line is 'hand over', without a number".into()),
             "fragment" => {
                 let words = fragment(rest)?;
@@ -89,21 +89,22 @@ impl Packer<'_> {
         }
     }
 
-    /// Begins a body.
-    fn begin(&mut self, kind: Kind) -> Result<(), String> {
+    /// Begins a body with these words.
+    fn begin(&mut self, kind: Kind, words: Vec<u32>) -> Result<(), String> {
         if self.bodies.len() == MOST_BODIES {
             return Err("this line begins a seventeenth body, and 16 is the most".into());
         }
-        self.bodies.push(Body { kind, words: vec![] });
+        self.bodies.push(Body { kind, words });
         Ok(())
     }
 
     /// The words of the last body, which is of this kind: a new one if it must be.
     fn open(&mut self, kind: Kind) -> Result<&mut Vec<u32>, String> {
         if self.bodies.last().is_none_or(|body| body.kind != kind) {
-            self.begin(kind)?;
+            self.begin(kind, vec![])?;
         }
-        self.bodies.last_mut().map(|body| &mut body.words).ok_or_else(String::new)
+        let last = self.bodies.len() - 1;
+        Ok(&mut self.bodies[last].words)
     }
 
     fn write(&mut self, rest: &str) -> Result<(), String> {
@@ -143,9 +144,7 @@ impl Packer<'_> {
             }
             _ => return Err("a restore is 'restore', 'restore zero' or 'restore file NAME'".into()),
         };
-        self.begin(Kind::Restore)?;
-        self.open(Kind::Restore)?.extend(saved);
-        Ok(())
+        self.begin(Kind::Restore, saved)
     }
 
     /// The words of a table in the restore above.
@@ -169,7 +168,7 @@ impl Packer<'_> {
         let table = self.restored(table(name)?)?;
         let words = numbers.iter().map(|text| float(text)).collect::<Result<Vec<u32>, String>>()?;
         if words.is_empty() || words.len() % 2 != 0 {
-            return Err(format!("each entry has a value and a step; here are {} numbers", words.len()));
+            return Err(format!("each entry has a value and a step, and the count of numbers here is {}", words.len()));
         }
         if let Some((from, to)) = at.split_once("..") {
             let (from, to) = (whole(from, 255)? as usize, whole(to, 255)? as usize);

@@ -76,7 +76,7 @@ const BAD: [(&str, usize, &str); 74] = [
     ("restore\ntable spot0", 2, "the curve is missing"),
     ("restore\ntable spot0 wave 1", 2, "no curve is called 'wave'"),
     ("restore\ntable spot0 ramp 1", 2, "ramp takes two numbers"),
-    ("restore\nentries spot0 0 1", 2, "each entry has a value and a step; here are 1 numbers"),
+    ("restore\nentries spot0 0 1", 2, "each entry has a value and a step, and the count of numbers here is 1"),
     ("restore\nentries spot0 255 1 2 3 4", 2, "the last of these entries is above 255"),
     ("restore\nentries spot0 9..3 1 2", 2, "from the lower entry to the higher"),
     ("upload spot0 ramp 0 2", 1, "the curve has"),
