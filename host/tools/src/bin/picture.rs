@@ -6,6 +6,7 @@ use lighting_tools::files::{end, help_wanted, print, read, tell};
 use lighting_tools::pack::pack_file;
 use lighting_tools::png;
 use lighting_tools::shapes::{fragments, Fragment, Shape};
+use lighting_tools::unpack::counted;
 use std::ffi::OsString;
 use std::io::{self, IsTerminal};
 use std::path::PathBuf;
@@ -84,7 +85,7 @@ fn say(line: &str) -> Result<(), String> {
 /// Draws the picture, and gives the number of pixels that differ from the Rust's.
 fn picture(options: &Options) -> Result<usize, String> {
     let out = options.out.display();
-    if !out.to_string().ends_with(".png") {
+    if !out.to_string().to_lowercase().ends_with(".png") {
         return Err(format!("{out} does not end in .png; {USAGE}"));
     }
     let scene = read(&options.scene)?;
@@ -102,7 +103,7 @@ fn picture(options: &Options) -> Result<usize, String> {
         canvas.paint(2, &seen, colours.iter().zip(rust).map(|(ours, theirs)| differences(ours, theirs)));
     }
     fs::write(&options.out, png::file(canvas.width, canvas.height, &canvas.pixels)).map_err(|e| format!("{out}: {e}"))?;
-    say(&format!("{out}: {} x {}, {} pixels by lightshow", canvas.width, canvas.height, fragments.len()))?;
+    say(&format!("{out}: {} x {}, {} by lightshow", canvas.width, canvas.height, counted(fragments.len(), "pixel", "pixels")))?;
     report(options, &colours, rust.as_deref())
 }
 
@@ -136,7 +137,7 @@ fn report(options: &Options, colours: &[Colours], rust: Option<&[Colours]>) -> R
         return Ok(0);
     };
     let differ = colours.iter().zip(rust).filter(|(ours, theirs)| ours != theirs).count();
-    say(&format!("{differ} pixels differ of {} from the Rust module's", colours.len()))?;
+    say(&format!("{differ} of {} differ from the Rust module's", counted(colours.len(), "pixel", "pixels")))?;
     Ok(differ)
 }
 

@@ -49,7 +49,7 @@ fn pictures_are_the_rust_modules() {
         for shape in ["sphere", "both"] {
             let output = picture(&[&example(scene), out.to_str().unwrap(), "--size", "40", "--shape", shape]);
             let pixels = if shape == "both" { 1600 } else { 928 };
-            assert!(said(&output).contains(&format!("0 pixels differ of {pixels} from the Rust module's")), "{}", said(&output));
+            assert!(said(&output).contains(&format!("0 of {pixels} pixels differ from the Rust module's")), "{}", said(&output));
             // three rows of three panels, with margins of one
             assert_eq!(header(&fs::read(&out).unwrap()), (124, 124));
         }
@@ -69,7 +69,7 @@ fn a_pixel_that_differs_is_counted() {
     let scene = example("lamp.txt");
     let output = picture(&[&scene, out.to_str().unwrap(), "--size", "16", "--shape", "plane", "--lightshow", wrong.to_str().unwrap()]);
     assert_eq!(output.status.code(), Some(1));
-    assert!(String::from_utf8_lossy(&output.stdout).contains("1 pixels differ of 256 from the Rust module's"), "{}", errors(&output));
+    assert!(String::from_utf8_lossy(&output.stdout).contains("1 of 256 pixels differ from the Rust module's"), "{}", errors(&output));
     // three rows of 52 pixels by 18, margins of one: the third row's panels are black but for the first pixel of the primary and of the sum
     let pixels = read(&fs::read(&out).unwrap(), 52);
     let first = (1 + 2 * 17) * 52 + 1;
