@@ -4,7 +4,7 @@ use crate::bodies::{bytes, total_words, Body, Kind, FRAGMENT_WORDS, MOST_BODIES,
 use crate::shapes::Fragment;
 use std::env;
 use std::io::Write;
-use std::path::{Path, PathBuf};
+use std::path::{self, Path, PathBuf};
 use std::process::{Command, Stdio};
 
 /// A fragment's eight k, primary then secondary; `None` where the lighting is off.
@@ -13,7 +13,9 @@ pub type Colours = Option<[u8; 8]>;
 /// Where lightshow is: the file that is given, or target/bin/lightshow of the repository that this program was built in.
 pub fn lightshow(given: Option<&Path>) -> Result<PathBuf, String> {
     if let Some(path) = given {
-        return if path.is_file() { Ok(path.to_path_buf()) } else { Err(format!("there is no lightshow at {}", path.display())) };
+        // a path without a folder would be looked for among the system's programs
+        let found = path::absolute(path).ok().filter(|path| path.is_file());
+        return found.ok_or_else(|| format!("there is no lightshow at {}", path.display()));
     }
     let built = env::current_exe().unwrap_or_default();
     let folders = built.ancestors().chain(Path::new(env!("CARGO_MANIFEST_DIR")).ancestors());

@@ -2,7 +2,7 @@ use super::random::Random;
 use super::{errors, picture, repository, Folder};
 use std::fs;
 use std::path::Path;
-use std::process::Output;
+use std::process::{Command, Output};
 
 fn example(name: &str) -> String {
     repository().join("examples").join(name).display().to_string()
@@ -75,6 +75,15 @@ fn a_pixel_that_differs_is_counted() {
     let first = (1 + 2 * 17) * 52 + 1;
     let white: Vec<usize> = (first..52 * 52).filter(|at| pixels[3 * at..3 * at + 3] == [255; 3]).collect();
     assert_eq!(white, [first, first + 2 * 17]);
+}
+
+/// The program's path counts from where picture is run, also without a folder in it.
+#[test]
+fn a_program_in_this_folder_is_run() {
+    let (folder, lightshow) = (Folder::new(), super::lightshow());
+    let mut command = Command::new(env!("CARGO_BIN_EXE_picture"));
+    command.args([&example("lamp.txt"), "--size", "8", "--lightshow", "lightshow"]).arg(folder.0.join("out.png"));
+    said(&command.current_dir(lightshow.parent().unwrap()).output().unwrap());
 }
 
 #[test]
