@@ -78,18 +78,27 @@ impl Curve {
     }
 
     /// The table's 512 words, as a restore has them: each entry's value and its step to the next.
-    pub fn words(&self) -> Vec<u32> {
-        let entry = |[from, to]: [f64; 2]| [from as f32, (to - from) as f32].map(f32::to_bits);
-        (0..256).flat_map(|at| entry(self.ends(at))).collect()
+    pub fn words(&self) -> Result<Vec<u32>, String> {
+        let mut words = vec![];
+        for at in 0..256 {
+            let [from, to] = self.ends(at);
+            let entry = [from as f32, (to - from) as f32];
+            if !entry.iter().all(|number| number.is_finite()) {
+                return Err(format!("the curve is too large for floats near entry {at}"));
+            }
+            words.extend(entry.map(f32::to_bits));
+        }
+        Ok(words)
     }
 
     /// The table's 256 upload words: values to the nearest 4095th, steps between them to the nearest 2047th.
     pub fn uploads(&self) -> Result<Vec<u32>, String> {
-        let coded = |v: f64| if (0.0..=1.0).contains(&v) { Some((v * 4095.0).round()) } else { None };
         let entry = |at| {
-            let [from, to] = self.ends(at);
-            let outside = || format!("the curve has {} near entry {at}, and an upload holds 0 to 1", if coded(from).is_some() { to } else { from });
-            let (from, to) = coded(from).zip(coded(to)).ok_or_else(outside)?;
+            let ends = self.ends(at);
+            if let Some(outside) = ends.iter().find(|end| !(0.0..=1.0).contains(*end)) {
+                return Err(format!("the curve has {outside} near entry {at}, and an upload holds 0 to 1"));
+            }
+            let [from, to] = ends.map(|end| (end * 4095.0).round());
             let step = ((to - from) * 2047.0 / 4095.0).round();
             Ok(((step < 0.0) as u32) << 23 | (step.abs() as u32) << 12 | from as u32)
         };

@@ -156,7 +156,7 @@ impl Packer<'_> {
 
     fn table(&mut self, rest: &str) -> Result<(), String> {
         let (table, curve) = curved(rest)?;
-        self.restored(table)?.copy_from_slice(&curve.words());
+        self.restored(table)?.copy_from_slice(&curve.words()?);
         Ok(())
     }
 

@@ -7,7 +7,7 @@ use std::fs;
 use std::path::Path;
 
 /// Texts, the line that is wrong, and what is said of it.
-const BAD: [(&str, usize, &str); 74] = [
+const BAD: [(&str, usize, &str); 76] = [
     ("wrtie enable 1", 1, "no line begins with 'wrtie'; is it 'write'?"),
     ("\n# fine\nwrite enable 1\nfrobnicate", 4, "no line begins with 'frobnicate'"),
     ("lights 0 1", 1, "a register is set by 'write lights ...'"),
@@ -76,10 +76,12 @@ const BAD: [(&str, usize, &str); 74] = [
     ("restore\ntable spot0", 2, "the curve is missing"),
     ("restore\ntable spot0 wave 1", 2, "no curve is called 'wave'"),
     ("restore\ntable spot0 ramp 1", 2, "ramp takes two numbers"),
+    ("restore\ntable spot0 constant 1e39", 2, "the curve is too large for floats near entry 0"),
+    ("restore\ntable spot0 ramp -1e308 1e308", 2, "the curve is too large for floats near entry 0"),
     ("restore\nentries spot0 0 1", 2, "each entry has a value and a step, and the count of numbers here is 1"),
     ("restore\nentries spot0 255 1 2 3 4", 2, "the last of these entries is above 255"),
     ("restore\nentries spot0 9..3 1 2", 2, "from the lower entry to the higher"),
-    ("upload spot0 ramp 0 2", 1, "the curve has"),
+    ("upload spot0 ramp 0 2", 1, "the curve has 1.0078125 near entry 128, and an upload holds 0 to 1"),
     ("upload spot0 cone 0.9 0.5", 1, "is below the second"),
     ("restore\nrestore", 2, "with this line the capture has 98332 bytes, and 65536 is the most"),
 ];
