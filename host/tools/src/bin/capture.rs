@@ -14,12 +14,12 @@ capture pack TEXT > FILE      makes a capture for lightshow from a text
 capture unpack FILE > TEXT    makes the text of a capture
 
 A text has a line for each register write, fragment and restore:
-    write light0.diffuse rgb(255 200 120)   # by name, or write 0x142 0x0FF32078
-    fragment 0 0 0 1, 0 0 3                 # quaternion, view, up to four texels
-    restore                                 # tables, by curves or by words
+    write light0.diffuse rgb(255 200 120)  # by name, or write 0x142 0x0FF32078
+    fragment 0 0 0 1, 0 0 3                # quaternion, view, up to four texels
+    restore                                # tables, by curves or by words
 
 Unpacking and packing gives the same bytes. A text that is wrong gives the line
-and what is wrong with it, exit status 1, and no capture. All forms: docs/TEXT.md
+and what is wrong there, exit status 1, and no capture. All forms: docs/TEXT.md
 ";
 
 fn main() -> ExitCode {

@@ -17,13 +17,13 @@ const HELP: &str = "\
 picture SCENE OUT.png [--shape sphere|plane|both] [--size N] [--hand-over K]
                       [--lightshow PATH] [--no-rust]
 
-Draws a scene's text (docs/TEXT.md) on a sphere, on a plane, or on both: the primary colour,
-the secondary and their sum, each 256 x 256 or N x N. lightshow colours every pixel.
-The eye is at 0 0 0 and looks along -z; the sphere has radius 1 and stands at 0 0 -4.
-Texture units: 0 studs for bump=normal, 1 a window for shadow, 2 circles for bump=tangent, 3 white.
-The text's own fragments are not drawn. --hand-over K draws by its K-th hand-over, else all lines count.
-Where the build had the Rust module, its picture and the difference stand below; exit status 1
-if a pixel differs. --no-rust leaves them out.
+Draws a scene's text (docs/TEXT.md) on a sphere, a plane or both: the primary
+colour, the secondary and their sum, each 256 x 256 or N x N. lightshow colours
+every pixel; the text's own fragments are left out. All lines count, or those up
+to hand-over K. The eye is at 0 0 0 and looks along -z, the sphere at 0 0 -4.
+Texture unit 0 has studs for bump, 1 a window for shadow, 2 circles for tangent.
+Where the build had the Rust module, its picture and the difference stand below,
+and the exit status is 1 if a pixel differs; --no-rust leaves them out.
 ";
 
 const USAGE: &str = "picture is run as: picture SCENE OUT.png [OPTIONS]; picture --help tells more";

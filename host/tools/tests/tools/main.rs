@@ -70,7 +70,7 @@ fn help_is_ten_lines() {
             assert_eq!(Command::new(program).args(arguments).output().unwrap().stdout, text.as_bytes(), "{arguments:?}");
         }
         assert!(output.status.success() && text.lines().count() == 10, "{text}");
-        assert!(text.lines().all(|line| line.len() <= 105), "{text}");
+        assert!(text.lines().all(|line| line.len() <= 80), "{text}");
         let unknown = Command::new(program).arg("--nothing").output().unwrap();
         assert_eq!(unknown.status.code(), Some(1));
     }
