@@ -44,23 +44,24 @@ fn packed(text: &OsStr) -> Result<(), String> {
 
 fn unpacked(file: &OsStr) -> Result<(), String> {
     let input = read(file)?;
-    let (name, unpacked) = (&input.name, unpack(&input.bytes));
+    let (name, bytes) = (&input.name, &input.bytes);
+    // a capture's first word has zero bytes, a text has none
+    if !bytes.is_empty() && !bytes.contains(&0) && std::str::from_utf8(bytes).is_ok() {
+        return Err(format!("{name}: this looks like a text; 'capture pack' makes a capture of it"));
+    }
+    let unpacked = unpack(bytes);
     print(unpacked.text.as_bytes())?;
     let Some(number) = unpacked.refusal else {
         return Ok(());
     };
-    for number in [8, 3] {
-        let places: Vec<_> = unpacked.breaks.iter().filter(|place| place.refusal == number).collect();
+    for refusal in [8, 3] {
+        let places: Vec<_> = unpacked.breaks.iter().filter(|place| place.refusal == refusal).collect();
         for place in places.iter().take(3) {
             tell(&format!("{name}: word {} (byte {}): {}\n", place.word, 4 * place.word, place.what));
         }
         if places.len() > 3 {
             tell(&format!("{name}: and {} like it\n", counted(places.len() - 3, "place", "places")));
         }
-    }
-    // a capture's first word has zero bytes, a text has none
-    if !input.bytes.is_empty() && !input.bytes.contains(&0) && std::str::from_utf8(&input.bytes).is_ok() {
-        return Err(format!("{name}: this looks like a text; 'capture pack' makes a capture of it"));
     }
     Err(format!("{name}: lightshow refuses this capture with {number}; the text goes as far as it can be read"))
 }

@@ -138,7 +138,10 @@ fn other_files_are_told_apart() {
     let output = capture("pack", &folder.file("a.txt", "write enable 1\nwrite \0enable 1\n"));
     assert!(output.status.code() == Some(1) && errors(&output).contains("a.txt:2: a byte is 0, so this is no text"));
     let output = capture("unpack", &folder.file("a.txt", "write enable 1\n"));
-    assert!(output.status.code() == Some(1) && errors(&output).contains("this looks like a text; 'capture pack' makes a capture of it"));
+    assert!(output.status.code() == Some(1) && output.stdout.is_empty());
+    assert!(
+        errors(&output).ends_with("a.txt: this looks like a text; 'capture pack' makes a capture of it\n") && errors(&output).lines().count() == 1
+    );
     let output = capture("pack", &folder.file("a.txt", b"write enable 1\nwrite \xFF 1\n"));
     assert!(output.status.code() == Some(1) && errors(&output).contains("a.txt:2: the line is not UTF-8"));
     let output = capture("pack", &folder.0.join("none.txt"));
