@@ -15,9 +15,9 @@ use Rattle.lighting.specs.declared.Light.{Light}
 use Rattle.lighting.specs.declared.Lighting.{Lighting}
 use Rattle.lighting.specs.Blank.{zeroFloat, zeroVector, blankLight}
 use Rattle.block.specs.declared.BlockForm.the-variants.{Off, NotWellFormed, NanFree, WithNan}
-use Rattle.block.specs.Words.{flagOf, bumpWord, shadowWord, presenceWord, inputWord, absoluteWord, scaleWord, lookupWords, vectorWords, headWords, biasWord, distanceScaleWord, isScaled, flagsWord, lightWords, lightAt, slotWords, slotsWords, packed}
+use Rattle.block.specs.Words.{flagWord, bumpWord, shadowWord, presenceWord, inputWord, absoluteWord, scaleWord, lookupWords, vectorWords, headWords, biasWord, distanceScaleWord, isScaled, flagsWord, lightWords, lightAt, slotWords, slotsWords, packed}
 use Rattle.block.specs.Formed.{words, every, zeros, allZero, eachLookup, eachLit, bumpFormed, shadowFormed, scaleFormed, paddingZero, isNumber, floatFormed, wellFormed}
-use Rattle.block.specs.Reading.{bumpOf, shadowOf, lookupOf, optionalLookupOf, vectorOf, distanceOf, lightOf, slotLight, lightsOf, lightingOf, on, readingOf}
+use Rattle.block.specs.Reading.{blockBump, blockShadow, blockLookup, blockOptionalLookup, blockVector, blockDistance, blockLight, blockSlotLight, blockLights, blockLighting, on, blockReading}
 use Rattle.block.specs.Answers.{bumpUnit, shadowUnit, inRange, accepted, nanFree, formOf, blockForm}
 
 one : Float
@@ -80,11 +80,11 @@ block =
     ++ replicate 252 0
 
 whole-packs : packed whole ≡ block
-unfolding toBits ofBits whole light one upward block blankLight flagOf bumpWord shadowWord presenceWord inputWord absoluteWord scaleWord lookupWords vectorWords headWords biasWord distanceScaleWord isScaled flagsWord lightWords lightAt slotWords slotsWords packed
+unfolding toBits ofBits whole light one upward block blankLight flagWord bumpWord shadowWord presenceWord inputWord absoluteWord scaleWord lookupWords vectorWords headWords biasWord distanceScaleWord isScaled flagsWord lightWords lightAt slotWords slotsWords packed
 whole-packs = refl
 
-whole-reads : readingOf (words block) ≡ on whole
-unfolding whole light one upward block every zeros allZero bumpOf shadowOf lookupOf optionalLookupOf vectorOf distanceOf lightOf slotLight lightsOf lightingOf readingOf blankLight
+whole-reads : blockReading (words block) ≡ on whole
+unfolding whole light one upward block every zeros allZero blockBump blockShadow blockLookup blockOptionalLookup blockVector blockDistance blockLight blockSlotLight blockLights blockLighting blockReading blankLight
 whole-reads = refl
 
 -- the form of the block, and of blocks with a word changed

@@ -24,7 +24,8 @@ use Rattle.lighting.specs.declared.OptionalShadow.{OptionalShadow}
 use Rattle.lighting.specs.declared.OptionalShadow.the-variants.{Unshadowed, Shadowed}
 use Rattle.lighting.specs.declared.Light.{Light}
 use Rattle.lighting.specs.declared.Lighting.{Lighting}
-use Rattle.block.specs.Words.{at, bitOf, flagOf, bumpWord, shadowWord, presenceWord, inputWord, absoluteWord, scaleWord, lookupWords, vectorWords, headWords, biasWord, distanceScaleWord, isScaled, flagsWord, lightWords, lightAt, packed}
+use Rattle.vectors.specs.Vectors.{at}
+use Rattle.block.specs.Words.{bitOf, flagWord, bumpWord, shadowWord, presenceWord, inputWord, absoluteWord, scaleWord, lookupWords, vectorWords, headWords, biasWord, distanceScaleWord, isScaled, flagsWord, lightWords, lightAt, packed}
 use Rattle.block.specs.Formed.{words, from, lookupAt, slotAt, every, zeros, bitAt, bumpFormed, shadowFormed, scaleFormed, paddingZero, isNumber, floatFormed, wellFormed}
 use Rattle.block.specs.Answers.{bumpUnit, shadowUnit, inRange, accepted}
 use Rattle.block.specs.Claims.{Single, Vector, DistanceHeld, LightHeld, Held, lookupFine, optionalLookupFine, fine, AcceptedIs}
@@ -184,7 +185,7 @@ shadow-formed (Shadowed s) h =
     rw (flag-is (s .invert) 256, flag-is (s .primary) 512, flag-is (s .secondary) 1024, flag-is (s .alpha) 2048)
     (flagged-formed (s .unit) (bitOf (s .invert)) (bitOf (s .primary)) (bitOf (s .secondary)) (bitOf (s .alpha)) h (bit-small (s .invert)) (bit-small (s .primary)) (bit-small (s .secondary)) (bit-small (s .alpha)))
 
-half-view : (a b : Bool) → (not a || b) ≡ true → (not (bitAt (flagOf a 1 + flagOf b 2) 1) || bitAt (flagOf a 1 + flagOf b 2) 2) ≡ true
+half-view : (a b : Bool) → (not a || b) ≡ true → (not (bitAt (flagWord a 1 + flagWord b 2) 1) || bitAt (flagWord a 1 + flagWord b 2) 2) ≡ true
 half-view a b h = rw (needs-back a b .0, needs-back a b .1) h
 
 -- what a fine lookup's words are
@@ -386,7 +387,7 @@ fine-present : (l : Lookup) → optionalLookupFine (Present l) ≡ true → look
 unfolding optionalLookupFine
 fine-present l h = h
 
-needs-fine : (a b : Bool) → (not (bitAt (flagOf a 1 + flagOf b 2) 1) || bitAt (flagOf a 1 + flagOf b 2) 2) ≡ true → (not a || b) ≡ true
+needs-fine : (a b : Bool) → (not (bitAt (flagWord a 1 + flagWord b 2) 1) || bitAt (flagWord a 1 + flagWord b 2) 2) ≡ true → (not a || b) ≡ true
 needs-fine a b h = rw (needs-back a b .0, needs-back a b .1) at h
 
 shaped-fine : (l : Lighting) → inRange l ≡ true → Shaped (words (packed l)) → fine l ≡ true

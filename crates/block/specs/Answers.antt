@@ -15,7 +15,8 @@ use Rattle.block.specs.declared.BlockForm.{BlockForm}
 use Rattle.block.specs.declared.BlockForm.the-variants.{Off, NotWellFormed, NanFree, WithNan}
 use Rattle.block.specs.Words.{lightAt, packed}
 use Rattle.block.specs.Formed.{words, every, allZero, isNumber, wellFormed}
-use Rattle.block.specs.Reading.{off, readingOf}
+use Rattle.lighting.specs.Blank.{off}
+use Rattle.block.specs.Reading.{blockReading}
 
 unfoldable pub bumpUnit : Bump → ℕ
 bumpUnit Flat = 0
@@ -90,4 +91,4 @@ unfoldable pub readRefusal : List ℕ → ℕ
 readRefusal b = blockRefusal (length b) else wordsRefusal (words b)
 
 unfoldable pub reads : List ℕ → Read
-reads b = read (readRefusal b) (cond (eqb (readRefusal b) 0) (readingOf (words b)) off)
+reads b = read (readRefusal b) (cond (eqb (readRefusal b) 0) (blockReading (words b)) off)

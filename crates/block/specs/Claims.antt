@@ -14,11 +14,12 @@ use Rattle.lighting.specs.declared.Distance.{Distance}
 use Rattle.lighting.specs.declared.Distance.the-variants.{Without, Scaled}
 use Rattle.lighting.specs.declared.Light.{Light}
 use Rattle.lighting.specs.declared.Lighting.{Lighting}
-use Rattle.lighting.specs.Blank.{blankLight}
+use Rattle.lighting.specs.Blank.{blankLight, off}
 use Rattle.block.specs.declared.BlockForm.the-variants.{NanFree}
-use Rattle.block.specs.Words.{at, lightAt, packed}
+use Rattle.vectors.specs.Vectors.{at}
+use Rattle.block.specs.Words.{lightAt, packed}
 use Rattle.block.specs.Formed.{words, allZero, scaleFormed, wellFormed}
-use Rattle.block.specs.Reading.{off, on, lightingOf, readingOf}
+use Rattle.block.specs.Reading.{on, blockLighting, blockReading}
 use Rattle.block.specs.Answers.{inRange, accepted, packs, packing, packedReading, formOf, reads, read}
 
 -- What the types of a lighting say: an f32 is a float that binary32 holds, and a vector has three.
@@ -69,7 +70,7 @@ BlankBeyond l = (s : ℕ) → s < 8 → l .«light_count» ≤ s → lightAt l s
 
 -- Reading a packed lighting gives the lighting.
 abbrev pub PackedReads : Type 0
-PackedReads = (l : Lighting) → length (l .lights) ≡ 8 → Held l → inRange l ≡ true → BlankBeyond l → readingOf (words (packed l)) ≡ on l
+PackedReads = (l : Lighting) → length (l .lights) ≡ 8 → Held l → inRange l ≡ true → BlankBeyond l → blockReading (words (packed l)) ≡ on l
 
 -- What words of 32 bits say.
 abbrev pub WordsHeld : (ℕ → ℕ) → Type 0
@@ -77,11 +78,11 @@ WordsHeld w = (i : ℕ) → w i < 2 ^ 32
 
 -- Packing a well-formed block's reading gives that block: all zero for off.
 abbrev pub ReadPacks : Type 0
-ReadPacks = (b : List ℕ) → length b ≡ 328 → WordsHeld (words b) → (allZero (words b) || wellFormed (words b)) ≡ true → packedReading (readingOf (words b)) ≡ b
+ReadPacks = (b : List ℕ) → length b ≡ 328 → WordsHeld (words b) → (allZero (words b) || wellFormed (words b)) ≡ true → packedReading (blockReading (words b)) ≡ b
 
 -- And `pack` accepts it.
 abbrev pub ReadAccepted : Type 0
-ReadAccepted = (b : List ℕ) → length b ≡ 328 → WordsHeld (words b) → wellFormed (words b) ≡ true → accepted (lightingOf (words b)) ≡ true
+ReadAccepted = (b : List ℕ) → length b ≡ 328 → WordsHeld (words b) → wellFormed (words b) ≡ true → accepted (blockLighting (words b)) ≡ true
 
 -- Which lightings `pack` accepts, said of the lighting itself.
 unfoldable pub lookupFine : Lookup → Bool

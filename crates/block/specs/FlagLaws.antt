@@ -6,12 +6,12 @@ use mathlib.Core.Path.{_≡_, refl, ap, _∙_}
 use mathlib.Core.Bool.{Bool, true, false, not, _||_}
 use lib.Dec.{eqb, ltb}
 use borrow.Author.Tests.{lt-ltb, ltb-true}
-use Rattle.block.specs.Words.{bitOf, flagOf}
+use Rattle.block.specs.Words.{bitOf, flagWord}
 use Rattle.block.specs.Formed.{bitAt}
 use Rattle.block.specs.TestLaws.{never}
 
-pub flag-is : (b : Bool) (w : ℕ) → flagOf b w ≡ w * bitOf b
-unfolding flagOf
+pub flag-is : (b : Bool) (w : ℕ) → flagWord b w ≡ w * bitOf b
+unfolding flagWord
 flag-is true w = omega arith
 flag-is false w = omega arith
 
@@ -35,12 +35,12 @@ small-bit zero h = refl
 small-bit (suc zero) h = refl
 small-bit (suc (suc n)) h = let k : suc (suc n) < 2 = ltb-true (suc (suc n)) 2 h in absurd (omega arith)
 
-pub flag-bit : (m k : ℕ) → m < 2 → flagOf (eqb m 1) k ≡ k * m
+pub flag-bit : (m k : ℕ) → m < 2 → flagWord (eqb m 1) k ≡ k * m
 flag-bit m k h = flag-is (eqb m 1) k ∙ ap (λ (x : ℕ). k * x) (small-bit m (lt-ltb m 2 h))
 
 -- seven flags, from bit 0 on
 unfoldable pub flags7 : Bool → Bool → Bool → Bool → Bool → Bool → Bool → ℕ
-flags7 a b c d e f g = flagOf a 1 + flagOf b 2 + flagOf c 4 + flagOf d 8 + flagOf e 16 + flagOf f 32 + flagOf g 64
+flags7 a b c d e f g = flagWord a 1 + flagWord b 2 + flagWord c 4 + flagWord d 8 + flagWord e 16 + flagWord f 32 + flagWord g 64
 
 module _ (a b c d e f g : Bool) where
   plain : flags7 a b c d e f g ≡ bitOf a + 2 * bitOf b + 4 * bitOf c + 8 * bitOf d + 16 * bitOf e + 32 * bitOf f + 64 * bitOf g
@@ -92,15 +92,15 @@ flags-back n h =
     (omega arith) (omega arith) (omega arith) (omega arith) (omega arith) (omega arith) (omega arith) (omega arith))
 
 -- the two needs
-pub needs-back : (a b : Bool) → (bitAt (flagOf a 1 + flagOf b 2) 1 ≡ a) × (bitAt (flagOf a 1 + flagOf b 2) 2 ≡ b)
-unfolding flagOf
+pub needs-back : (a b : Bool) → (bitAt (flagWord a 1 + flagWord b 2) 1 ≡ a) × (bitAt (flagWord a 1 + flagWord b 2) 2 ≡ b)
+unfolding flagWord
 needs-back true true = (refl, refl)
 needs-back true false = (refl, refl)
 needs-back false true = (refl, refl)
 needs-back false false = (refl, refl)
 
-pub needs-small : (a b : Bool) → ltb (flagOf a 1 + flagOf b 2) 4 ≡ true
-unfolding flagOf
+pub needs-small : (a b : Bool) → ltb (flagWord a 1 + flagWord b 2) 4 ≡ true
+unfolding flagWord
 needs-small true true = refl
 needs-small true false = refl
 needs-small false true = refl
@@ -109,5 +109,5 @@ needs-small false false = refl
 sum2 : (n a b : ℕ) → n < 4 → a ≡ 1 * (n / 1 % 2) → b ≡ 2 * (n / 2 % 2) → a + b ≡ n
 sum2 n a b h p q = omega arith
 
-pub needs-word-back : (n : ℕ) → ltb n 4 ≡ true → flagOf (bitAt n 1) 1 + flagOf (bitAt n 2) 2 ≡ n
+pub needs-word-back : (n : ℕ) → ltb n 4 ≡ true → flagWord (bitAt n 1) 1 + flagWord (bitAt n 2) 2 ≡ n
 needs-word-back n h = sum2 n _ _ (ltb-true n 4 h) (flag-bit (n / 1 % 2) 1 (omega arith)) (flag-bit (n / 2 % 2) 2 (omega arith))

@@ -25,9 +25,10 @@ use Rattle.lighting.specs.declared.OptionalShadow.the-variants.{Unshadowed, Sha
 use Rattle.lighting.specs.declared.Light.{Light}
 use Rattle.lighting.specs.declared.Lighting.{Lighting}
 use Rattle.lighting.specs.Blank.{blankLight}
-use Rattle.block.specs.Words.{at, bitOf, flagOf, bumpWord, shadowWord, presenceWord, inputWord, absoluteWord, scaleWord, lookupWords, vectorWords, headWords, biasWord, distanceScaleWord, isScaled, flagsWord, lightWords, lightAt, noLight, packed}
+use Rattle.vectors.specs.Vectors.{at}
+use Rattle.block.specs.Words.{bitOf, flagWord, bumpWord, shadowWord, presenceWord, inputWord, absoluteWord, scaleWord, lookupWords, vectorWords, headWords, biasWord, distanceScaleWord, isScaled, flagsWord, lightWords, lightAt, noLight, packed}
 use Rattle.block.specs.Formed.{words, from, slotAt, every, allZero, zeros, bitAt}
-use Rattle.block.specs.Reading.{bumpOf, shadowOf, lookupOf, optionalLookupOf, vectorOf, distanceOf, lightOf, slotLight, lightsOf, lightingOf, on, readingOf}
+use Rattle.block.specs.Reading.{blockBump, blockShadow, blockLookup, blockOptionalLookup, blockVector, blockDistance, blockLight, blockSlotLight, blockLights, blockLighting, on, blockReading}
 use Rattle.block.specs.Answers.{bumpUnit, shadowUnit, numbersFit, inRange}
 use Rattle.block.specs.Claims.{Single, Vector, DistanceHeld, LookupHeld, LightHeld, Held, BlankBeyond, PackedReads}
 use Rattle.block.specs.TestLaws.{both-first, both-second, chain-first, chain-part, every-one}
@@ -120,8 +121,8 @@ module _ (l : Light) where
   light-made s0 s1 d a p t s b0 b1 b2 b3 f b5 b6 e1 e2 e3 e4 e5 e6 e7 e8 e9 e10 e11 e12 e13 e14 =
       rw (e1, e2, e3, e4, e5, e6, e7, e8, e9, e10, e11, e12, e13, e14) refl
 
-  pub light-back : LightHeld l → lightOf (words (lightWords l)) ≡ l
-  unfolding lightOf lightWords vectorWords vectorOf distanceOf
+  pub light-back : LightHeld l → blockLight (words (lightWords l)) ≡ l
+  unfolding blockLight lightWords vectorWords blockVector blockDistance
   light-back h =
       let a = l .directional in
       let b = l .«two_sided» in
@@ -148,17 +149,17 @@ module _ (l : Light) where
       (ap (λ (n : ℕ). bitAt n 64) w ∙ flag-6 a b c d e f g)
 
 -- the light of 36 words is that of the list of them
-light-listed : (v : ℕ → ℕ) (ws : List ℕ) → picks v 0 36 ≡ ws → lightOf v ≡ lightOf (words ws)
-unfolding lightOf vectorOf distanceOf
-light-listed v ws e = ap (λ (l : List ℕ). lightOf (words l)) e
+light-listed : (v : ℕ → ℕ) (ws : List ℕ) → picks v 0 36 ≡ ws → blockLight v ≡ blockLight (words ws)
+unfolding blockLight blockVector blockDistance
+light-listed v ws e = ap (λ (l : List ℕ). blockLight (words l)) e
 
-slot-light : (l : Lighting) (s : ℕ) → Held l → BlankBeyond l → s < 8 → slotLight (words (packed l)) s ≡ lightAt l s
-unfolding slotLight
+slot-light : (l : Lighting) (s : ℕ) → Held l → BlankBeyond l → s < 8 → blockSlotLight (words (packed l)) s ≡ lightAt l s
+unfolding blockSlotLight
 slot-light l s h z k =
-    ap (λ (n : ℕ). cond (ltb s n) (lightOf (from (words (packed l)) (slotAt s))) blankLight) (count-of l)
+    ap (λ (n : ℕ). cond (ltb s n) (blockLight (from (words (packed l)) (slotAt s))) blankLight) (count-of l)
     ∙ go (ltb s (l .«light_count»)) refl
   where
-    go : (b : Bool) → ltb s (l .«light_count») ≡ b → cond b (lightOf (from (words (packed l)) (slotAt s))) blankLight ≡ lightAt l s
+    go : (b : Bool) → ltb s (l .«light_count») ≡ b → cond b (blockLight (from (words (packed l)) (slotAt s))) blankLight ≡ lightAt l s
     go true e = light-listed (from (words (packed l)) (slotAt s)) (lightWords (lightAt l s)) (slot-lit l s k e) ∙ light-back (lightAt l s) (h .lights s k)
     go false e = sym (z s k (ltb-false s (l .«light_count») e))
 
@@ -175,39 +176,39 @@ eight (a ∷ b ∷ c ∷ d ∷ e ∷ f ∷ g ∷ []) h = absurd (omega arith)
 eight (a ∷ b ∷ c ∷ d ∷ e ∷ f ∷ g ∷ i ∷ []) h = refl
 eight (a ∷ b ∷ c ∷ d ∷ e ∷ f ∷ g ∷ i ∷ j ∷ v) h = absurd (omega arith)
 
-lights-back : (l : Lighting) → length (l .lights) ≡ 8 → Held l → BlankBeyond l → lightsOf (words (packed l)) ≡ l .lights
-unfolding lightsOf lightAt
+lights-back : (l : Lighting) → length (l .lights) ≡ 8 → Held l → BlankBeyond l → blockLights (words (packed l)) ≡ l .lights
+unfolding blockLights lightAt
 lights-back l n h z =
     rw (slot-light l 0 h z (omega arith), slot-light l 1 h z (omega arith), slot-light l 2 h z (omega arith), slot-light l 3 h z (omega arith), slot-light l 4 h z (omega arith), slot-light l 5 h z (omega arith), slot-light l 6 h z (omega arith), slot-light l 7 h z (omega arith))
     (eight (l .lights) n)
 
 -- the head
 
-normal-is : (n u : ℕ) (r : Bool) → n % 16 ≡ 1 → n / 16 % 16 ≡ u → bitAt n 256 ≡ r → bumpOf n ≡ Normal u r
-unfolding bumpOf
+normal-is : (n u : ℕ) (r : Bool) → n % 16 ≡ 1 → n / 16 % 16 ≡ u → bitAt n 256 ≡ r → blockBump n ≡ Normal u r
+unfolding blockBump
 normal-is n u r p q s = simp (eq-eqb (n % 16) 1 p, q, s)
 
-tangent-is : (n u : ℕ) → n % 16 ≡ 2 → n / 16 % 16 ≡ u → bumpOf n ≡ Tangent u
-unfolding bumpOf
+tangent-is : (n u : ℕ) → n % 16 ≡ 2 → n / 16 % 16 ≡ u → blockBump n ≡ Tangent u
+unfolding blockBump
 tangent-is n u p q = let d : n % 16 ≡ 1 → ⊥ = λ h. omega arith in simp (ne-eqb (n % 16) 1 d, eq-eqb (n % 16) 2 p, q)
 
-pub bump-back : (b : Bump) → bumpUnit b ≤ 3 → bumpOf (bumpWord b) ≡ b
-unfolding bumpWord bumpUnit bumpOf
+pub bump-back : (b : Bump) → bumpUnit b ≤ 3 → blockBump (bumpWord b) ≡ b
+unfolding bumpWord bumpUnit blockBump
 bump-back Flat h = refl
 bump-back (Normal u r) h =
-    let n = 1 + 16 * u + flagOf r 256 in
+    let n = 1 + 16 * u + flagWord r 256 in
     normal-is n u r (omega (arith, flag-is r 256)) (omega (arith, flag-is r 256, bit-small r)) (back (n / 256 % 2) r (omega (arith, flag-is r 256, bit-small r)))
 bump-back (Tangent u) h = tangent-is (2 + 16 * u) u (omega arith) (omega arith)
 
-shadow-is : (n : ℕ) (s : Shadow) → n % 16 ≡ 1 → n / 16 % 16 ≡ s .unit → bitAt n 256 ≡ s .invert → bitAt n 512 ≡ s .primary → bitAt n 1024 ≡ s .secondary → bitAt n 2048 ≡ s .alpha → shadowOf n ≡ Shadowed s
-unfolding shadowOf
+shadow-is : (n : ℕ) (s : Shadow) → n % 16 ≡ 1 → n / 16 % 16 ≡ s .unit → bitAt n 256 ≡ s .invert → bitAt n 512 ≡ s .primary → bitAt n 1024 ≡ s .secondary → bitAt n 2048 ≡ s .alpha → blockShadow n ≡ Shadowed s
+unfolding blockShadow
 shadow-is n s p q a b c d = rw (eq-eqb (n % 16) 1 p, q, a, b, c, d) refl
 
-pub shadow-back : (s : OptionalShadow) → shadowUnit s ≤ 3 → shadowOf (shadowWord s) ≡ s
-unfolding shadowWord shadowUnit shadowOf
+pub shadow-back : (s : OptionalShadow) → shadowUnit s ≤ 3 → blockShadow (shadowWord s) ≡ s
+unfolding shadowWord shadowUnit blockShadow
 shadow-back Unshadowed h = refl
 shadow-back (Shadowed s) h =
-    let n = 1 + 16 * s .unit + flagOf (s .invert) 256 + flagOf (s .primary) 512 + flagOf (s .secondary) 1024 + flagOf (s .alpha) 2048 in
+    let n = 1 + 16 * s .unit + flagWord (s .invert) 256 + flagWord (s .primary) 512 + flagWord (s .secondary) 1024 + flagWord (s .alpha) 2048 in
     let a : n ≡ 1 + 16 * s .unit + 256 * bitOf (s .invert) + 512 * bitOf (s .primary) + 1024 * bitOf (s .secondary) + 2048 * bitOf (s .alpha) = omega (arith, flag-is (s .invert) 256, flag-is (s .primary) 512, flag-is (s .secondary) 1024, flag-is (s .alpha) 2048) in
     shadow-is n s
     (omega arith)
@@ -266,8 +267,8 @@ module _ (l : Lighting) where
   lighting-made ls a d0 d1 f r g u s b1 b2 b3 b4 b5 m h e1 e2 e3 e4 e5 e6 e7 e8 e9 e10 e11 e12 e13 e14 e15 e16 =
       rw (e1, e2, e3, e4, e5, e6, e7, e8, e9, e10, e11, e12, e13, e14, e15, e16) refl
 
-  pub lighting-back : length (l .lights) ≡ 8 → Held l → inRange l ≡ true → BlankBeyond l → lightingOf (words (packed l)) ≡ l
-  unfolding lightingOf packed headWords lookupWords vectorWords vectorOf optionalLookupOf lookupOf presenceWord inputWord absoluteWord scaleWord
+  pub lighting-back : length (l .lights) ≡ 8 → Held l → inRange l ≡ true → BlankBeyond l → blockLighting (words (packed l)) ≡ l
+  unfolding blockLighting packed headWords lookupWords vectorWords blockVector blockOptionalLookup blockLookup presenceWord inputWord absoluteWord scaleWord
   lighting-back n h i z =
       lighting-made _ _ _ _ _ _ _ _ _ _ _ _ _ _ _ _
       (lights-back l n h z)
@@ -297,7 +298,7 @@ not-all-zero w i h n = go (every 328 (λ k. eqb (w (0 + k)) 0)) refl
     go false e = refl
 
 pub packed-reads : PackedReads
-unfolding readingOf
+unfolding blockReading
 packed-reads l n h i z =
     let lit : words (packed l) 1 ≡ 0 → ⊥ = λ e. omega (arith, count-of l, range-some l i) in
     rw (not-all-zero (words (packed l)) 1 (omega arith) lit) (ap on (lighting-back l n h i z))

@@ -14,9 +14,10 @@ use Rattle.binary32.specs.Words.{floatOf, wordOf}
 use Rattle.lighting.specs.declared.Light.{Light}
 use Rattle.lighting.specs.declared.Lighting.{Lighting}
 use Rattle.lighting.specs.declared.OptionalLighting.{OptionalLighting}
-use Rattle.block.specs.Words.{bitOf, flagOf, presenceWord, inputWord, absoluteWord, scaleWord, lookupWords, vectorWords, headWords, flagsWord, lightWords, lightAt, noLight, slotWords, slotsWords, packed}
+use Rattle.block.specs.Words.{bitOf, flagWord, presenceWord, inputWord, absoluteWord, scaleWord, lookupWords, vectorWords, headWords, flagsWord, lightWords, lightAt, noLight, slotWords, slotsWords, packed}
 use Rattle.block.specs.Formed.{words, from, lookupAt, slotAt, every, zeros, allZero, bitAt, paddingZero, floatFormed, wellFormed}
-use Rattle.block.specs.Reading.{lookupOf, optionalLookupOf, vectorOf, distanceOf, lightOf, slotLight, lightsOf, lightingOf, off, on, readingOf}
+use Rattle.lighting.specs.Blank.{off}
+use Rattle.block.specs.Reading.{blockLookup, blockOptionalLookup, blockVector, blockDistance, blockLight, blockSlotLight, blockLights, blockLighting, on, blockReading}
 use Rattle.block.specs.Answers.{bumpUnit, shadowUnit, numbersFit, inRange, accepted, packedReading}
 use Rattle.block.specs.Claims.{WordsHeld, ReadPacks, ReadAccepted}
 use Rattle.block.specs.TestLaws.{_also_, chain-first, chain-part, every-one, every-of}
@@ -58,14 +59,14 @@ flags-word-back : (v : ℕ → ℕ) (e : Bool) → ltb (v 32) 128 ≡ true → e
     → flags7 (bitAt (v 32) 1) (bitAt (v 32) 2) (bitAt (v 32) 4) (bitAt (v 32) 8) e (bitAt (v 32) 32) (bitAt (v 32) 64) ≡ v 32
 flags-word-back v e h q = rw q (flags-back (v 32) (ltb-true (v 32) 128 h))
 
-flags-of : (v : ℕ → ℕ) → LightFormed v → WordsHeld v → flagsWord (lightOf v) ≡ v 32
-unfolding lightOf
+flags-of : (v : ℕ → ℕ) → LightFormed v → WordsHeld v → flagsWord (blockLight v) ≡ v 32
+unfolding blockLight
 flags-of v f k =
     let d = distance-words-back v (k 28) (k 29) (f .floats 28 (omega arith)) (f .floats 29 (omega arith)) (f .without) in
     flags-are _ ∙ flags-word-back v _ (f .flags) (d .2)
 
-pub light-words-back : (v : ℕ → ℕ) → WordsHeld v → LightFormed v → lightWords (lightOf v) ≡ picks v 0 36
-unfolding lightWords lightOf vectorWords vectorOf
+pub light-words-back : (v : ℕ → ℕ) → WordsHeld v → LightFormed v → lightWords (blockLight v) ≡ picks v 0 36
+unfolding lightWords blockLight vectorWords blockVector
 light-words-back v k f =
     let x : (j : ℕ) → j < 36 → wordOf (floatOf (v j)) ≡ v j = λ j h. word-back (v j) (k j) (f .floats j h) in
     let p = padded v (f .padding) in
@@ -90,16 +91,16 @@ lookup-formed w f k h = record {
   missing = f .shape .missing k h;
 }
 
-lookup-back : (w : ℕ → ℕ) → Formed w → (k : ℕ) → k < 7 → LookupBack (from w (lookupAt k)) (optionalLookupOf (from w (lookupAt k)))
+lookup-back : (w : ℕ → ℕ) → Formed w → (k : ℕ) → k < 7 → LookupBack (from w (lookupAt k)) (blockOptionalLookup (from w (lookupAt k)))
 lookup-back w f k h = lookup-words-back (from w (lookupAt k)) (lookup-formed w f k h)
 
 -- a lookup's four words before equal lists
-four : (v : ℕ → ℕ) {a b c d : ℕ} (xs ys : List ℕ) → LookupBack v (optionalLookupOf v) → a ≡ v 0 → b ≡ v 1 → c ≡ v 2 → d ≡ v 3 → xs ≡ ys
-    → (presenceWord (optionalLookupOf v) ∷ inputWord (optionalLookupOf v) ∷ absoluteWord (optionalLookupOf v) ∷ scaleWord (optionalLookupOf v) ∷ xs) ≡ (a ∷ b ∷ c ∷ d ∷ ys)
+four : (v : ℕ → ℕ) {a b c d : ℕ} (xs ys : List ℕ) → LookupBack v (blockOptionalLookup v) → a ≡ v 0 → b ≡ v 1 → c ≡ v 2 → d ≡ v 3 → xs ≡ ys
+    → (presenceWord (blockOptionalLookup v) ∷ inputWord (blockOptionalLookup v) ∷ absoluteWord (blockOptionalLookup v) ∷ scaleWord (blockOptionalLookup v) ∷ xs) ≡ (a ∷ b ∷ c ∷ d ∷ ys)
 four v xs ys k p q r s e = one (k .presence ∙ sym p) (one (k .input ∙ sym q) (one (k .absolute ∙ sym r) (one (k .scale ∙ sym s) e)))
 
-head-words-back : (w : ℕ → ℕ) → WordsHeld w → Formed w → headWords (lightingOf w) ≡ picks w 0 40
-unfolding headWords lightingOf lookupWords presenceWord inputWord absoluteWord scaleWord vectorWords vectorOf lookupOf
+head-words-back : (w : ℕ → ℕ) → WordsHeld w → Formed w → headWords (blockLighting w) ≡ picks w 0 40
+unfolding headWords blockLighting lookupWords presenceWord inputWord absoluteWord scaleWord vectorWords blockVector blockLookup
 head-words-back w k f =
     let x : (i : ℕ) → i < 328 → wordOf (floatOf (w i)) ≡ w i = λ i h. word-back (w i) (k i) (f .floats i h) in
     one refl (one refl (one (bump-word-back (w 2) (f .shape .bump)) (one (shadow-word-back (w 3) (f .shape .shadow))
@@ -130,8 +131,8 @@ light-formed w f s h =
       floats = λ j k. f .floats (slotAt s + j) (omega arith);
     }
 
-light-of-slot : (w : ℕ → ℕ) (s : ℕ) → s < 8 → lightAt (lightingOf w) s ≡ slotLight w s
-unfolding lightAt lightingOf lightsOf
+light-of-slot : (w : ℕ → ℕ) (s : ℕ) → s < 8 → lightAt (blockLighting w) s ≡ blockSlotLight w s
+unfolding lightAt blockLighting blockLights
 light-of-slot w zero h = refl
 light-of-slot w (suc zero) h = refl
 light-of-slot w (suc (suc zero)) h = refl
@@ -142,22 +143,22 @@ light-of-slot w (suc (suc (suc (suc (suc (suc zero)))))) h = refl
 light-of-slot w (suc (suc (suc (suc (suc (suc (suc zero))))))) h = refl
 light-of-slot w (suc (suc (suc (suc (suc (suc (suc (suc s)))))))) h = absurd (omega arith)
 
-count-is : (w : ℕ → ℕ) → lightingOf w .«light_count» ≡ w 1
-unfolding lightingOf
+count-is : (w : ℕ → ℕ) → blockLighting w .«light_count» ≡ w 1
+unfolding blockLighting
 count-is w = refl
 
 -- the light of a lit slot
-pub lit-light : (w : ℕ → ℕ) (s : ℕ) → s < 8 → ltb s (w 1) ≡ true → lightAt (lightingOf w) s ≡ lightOf (from w (slotAt s))
-unfolding slotLight
+pub lit-light : (w : ℕ → ℕ) (s : ℕ) → s < 8 → ltb s (w 1) ≡ true → lightAt (blockLighting w) s ≡ blockLight (from w (slotAt s))
+unfolding blockSlotLight
 lit-light w s h e = light-of-slot w s h ∙ rw e refl
 
-slot-words-back : (w : ℕ → ℕ) → WordsHeld w → Formed w → (s : ℕ) → s < 8 → slotWords (lightingOf w) s ≡ picks w (slotAt s) 36
+slot-words-back : (w : ℕ → ℕ) → WordsHeld w → Formed w → (s : ℕ) → s < 8 → slotWords (blockLighting w) s ≡ picks w (slotAt s) 36
 unfolding slotWords
 slot-words-back w k f s h =
-    ap (λ (n : ℕ). cond (ltb s n) (lightWords (lightAt (lightingOf w) s)) (replicate 36 0)) (count-is w)
+    ap (λ (n : ℕ). cond (ltb s n) (lightWords (lightAt (blockLighting w) s)) (replicate 36 0)) (count-is w)
     ∙ go (ltb s (w 1)) refl
   where
-    go : (b : Bool) → ltb s (w 1) ≡ b → cond b (lightWords (lightAt (lightingOf w) s)) (replicate 36 0) ≡ picks w (slotAt s) 36
+    go : (b : Bool) → ltb s (w 1) ≡ b → cond b (lightWords (lightAt (blockLighting w) s)) (replicate 36 0) ≡ picks w (slotAt s) 36
     go true e =
         ap lightWords (lit-light w s h e)
         ∙ light-words-back (from w (slotAt s)) (λ j. k (slotAt s + j)) (light-formed w f s (ltb-true s (w 1) e))
@@ -167,31 +168,31 @@ slot-words-back w k f s h =
         let c : w 1 ≤ s = ltb-false s (w 1) e in
         sym (zero-picks w (slotAt s) 36 (λ j m. unused-zero w (f .shape) (slotAt s + j) (omega arith) (omega arith)))
 
-slots-words-back : (w : ℕ → ℕ) → WordsHeld w → Formed w → (n : ℕ) → n ≤ 8 → slotsWords (lightingOf w) n ≡ picks w 40 (36 * n)
+slots-words-back : (w : ℕ → ℕ) → WordsHeld w → Formed w → (n : ℕ) → n ≤ 8 → slotsWords (blockLighting w) n ≡ picks w 40 (36 * n)
 unfolding slotsWords
 slots-words-back w k f zero h = refl
 slots-words-back w k f (suc n) h =
     let m : 36 * n + 36 ≡ 36 * suc n = omega arith in
-    ap (λ (l : List ℕ). l ++ slotWords (lightingOf w) n) (slots-words-back w k f n (omega arith))
+    ap (λ (l : List ℕ). l ++ slotWords (blockLighting w) n) (slots-words-back w k f n (omega arith))
     ∙ ap (λ (l : List ℕ). picks w 40 (36 * n) ++ l) (slot-words-back w k f n (omega arith))
     ∙ picks-append w 40 (36 * n) 36
     ∙ ap (λ (j : ℕ). picks w 40 j) m
 
 -- over any words
-pub packed-back : (w : ℕ → ℕ) → WordsHeld w → wellFormed w ≡ true → packed (lightingOf w) ≡ picks w 0 328
+pub packed-back : (w : ℕ → ℕ) → WordsHeld w → wellFormed w ≡ true → packed (blockLighting w) ≡ picks w 0 328
 unfolding packed
 packed-back w k h =
     let f = formed-parts w h in
-    ap (λ (l : List ℕ). l ++ slotsWords (lightingOf w) 8) (head-words-back w k f)
+    ap (λ (l : List ℕ). l ++ slotsWords (blockLighting w) 8) (head-words-back w k f)
     ∙ ap (λ (l : List ℕ). picks w 0 40 ++ l) (slots-words-back w k f 8 (omega arith))
     ∙ picks-append w 0 40 288
 
-reading-off : (w : ℕ → ℕ) → allZero w ≡ true → packedReading (readingOf w) ≡ replicate 328 0
-unfolding readingOf packedReading
+reading-off : (w : ℕ → ℕ) → allZero w ≡ true → packedReading (blockReading w) ≡ replicate 328 0
+unfolding blockReading packedReading
 reading-off w e = rw e refl
 
-reading-on : (w : ℕ → ℕ) → allZero w ≡ false → packedReading (readingOf w) ≡ packed (lightingOf w)
-unfolding readingOf packedReading
+reading-on : (w : ℕ → ℕ) → allZero w ≡ false → packedReading (blockReading w) ≡ packed (blockLighting w)
+unfolding blockReading packedReading
 reading-on w e = rw e refl
 
 pub all-zero-words : (b : List ℕ) → length b ≡ 328 → allZero (words b) ≡ true → replicate 328 0 ≡ b
@@ -201,40 +202,40 @@ all-zero-words b e z = sym (zero-picks (words b) 0 328 (λ k h. sym (zero-at (wo
 pub read-packs : ReadPacks
 read-packs b e k h = go (allZero (words b)) refl h
   where
-    go : (x : Bool) → allZero (words b) ≡ x → (x || wellFormed (words b)) ≡ true → packedReading (readingOf (words b)) ≡ b
+    go : (x : Bool) → allZero (words b) ≡ x → (x || wellFormed (words b)) ≡ true → packedReading (blockReading (words b)) ≡ b
     go true z g = reading-off (words b) z ∙ all-zero-words b e z
     go false z g = reading-on (words b) z ∙ packed-back (words b) k g ∙ picked-all b 328 e
 
 -- `pack` accepts the reading
 
-bump-of : (w : ℕ → ℕ) → Formed w → leb (bumpUnit (lightingOf w .bump)) 3 ≡ true
-unfolding lightingOf
+bump-of : (w : ℕ → ℕ) → Formed w → leb (bumpUnit (blockLighting w .bump)) 3 ≡ true
+unfolding blockLighting
 bump-of w f = le-leb _ 3 (bump-unit-small (w 2) (f .shape .bump))
 
-shadow-of : (w : ℕ → ℕ) → Formed w → leb (shadowUnit (lightingOf w .shadow)) 3 ≡ true
-unfolding lightingOf
+shadow-of : (w : ℕ → ℕ) → Formed w → leb (shadowUnit (blockLighting w .shadow)) 3 ≡ true
+unfolding blockLighting
 shadow-of w f = le-leb _ 3 (shadow-unit-small (w 3) (f .shape .shadow))
 
-light-number : (v : ℕ → ℕ) → ltb (v 33) 8 ≡ true → leb (lightOf v .number .0) 7 ≡ true
-unfolding lightOf
+light-number : (v : ℕ → ℕ) → ltb (v 33) 8 ≡ true → leb (blockLight v .number .0) 7 ≡ true
+unfolding blockLight
 light-number v h = let k : v 33 < 8 = ltb-true (v 33) 8 h in le-leb (v 33) 7 (omega arith)
 
-numbers-of : (w : ℕ → ℕ) → Formed w → every (w 1) (λ s. leb (lightAt (lightingOf w) s .number .0) 7) ≡ true
-numbers-of w f = every-of (w 1) (λ s. leb (lightAt (lightingOf w) s .number .0) 7) (λ s h. fits s h)
+numbers-of : (w : ℕ → ℕ) → Formed w → every (w 1) (λ s. leb (lightAt (blockLighting w) s .number .0) 7) ≡ true
+numbers-of w f = every-of (w 1) (λ s. leb (lightAt (blockLighting w) s .number .0) 7) (λ s h. fits s h)
   where
-    fits : (s : ℕ) → s < w 1 → leb (lightAt (lightingOf w) s .number .0) 7 ≡ true
+    fits : (s : ℕ) → s < w 1 → leb (lightAt (blockLighting w) s .number .0) 7 ≡ true
     fits s h =
         let c : w 1 ≤ 8 = leb-true (w 1) 8 (f .shape .few) in
         ap (λ (l : Light). leb (l .number .0) 7) (lit-light w s (omega arith) (lt-ltb s (w 1) h)) ∙ light-number (from w (slotAt s)) (f .shape .number s h)
 
-range-back : (w : ℕ → ℕ) → Formed w → inRange (lightingOf w) ≡ true
+range-back : (w : ℕ → ℕ) → Formed w → inRange (blockLighting w) ≡ true
 unfolding inRange numbersFit
 range-back w f =
     bump-of w f
     also shadow-of w f
     also (ap (λ (n : ℕ). leb 1 n) (count-is w) ∙ f .shape .some)
     also (ap (λ (n : ℕ). leb n 8) (count-is w) ∙ f .shape .few)
-    also (ap (λ (n : ℕ). every n (λ s. leb (lightAt (lightingOf w) s .number .0) 7)) (count-is w) ∙ numbers-of w f)
+    also (ap (λ (n : ℕ). every n (λ s. leb (lightAt (blockLighting w) s .number .0) 7)) (count-is w) ∙ numbers-of w f)
 
 pub read-accepted : ReadAccepted
 unfolding accepted

@@ -20,9 +20,9 @@ use Rattle.lighting.specs.declared.Bump.{Bump}
 use Rattle.lighting.specs.declared.Bump.the-variants.{Flat, Normal, Tangent}
 use Rattle.lighting.specs.declared.OptionalShadow.{OptionalShadow}
 use Rattle.lighting.specs.declared.OptionalShadow.the-variants.{Unshadowed, Shadowed}
-use Rattle.block.specs.Words.{bitOf, flagOf, bumpWord, shadowWord, presenceWord, inputWord, absoluteWord, scaleWord, biasWord, distanceScaleWord, isScaled}
+use Rattle.block.specs.Words.{bitOf, flagWord, bumpWord, shadowWord, presenceWord, inputWord, absoluteWord, scaleWord, biasWord, distanceScaleWord, isScaled}
 use Rattle.block.specs.Formed.{every, zeros, bitAt, bumpFormed, shadowFormed, scaleFormed, isNumber, floatFormed}
-use Rattle.block.specs.Reading.{bumpOf, shadowOf, lookupOf, optionalLookupOf, distanceOf}
+use Rattle.block.specs.Reading.{blockBump, blockShadow, blockLookup, blockOptionalLookup, blockDistance}
 use Rattle.block.specs.Answers.{bumpUnit, shadowUnit}
 use Rattle.block.specs.TestLaws.{both-first, both-second, same-bool, chain-first, chain-part, or-cases, every-one}
 use Rattle.block.specs.FlagLaws.{flag-is, flag-bit, small-bit}
@@ -120,8 +120,8 @@ scale-back n h = let s : n ≤ 0x4100_0000 = scale-small n h in number-back n (o
 
 -- the bump word
 
-bump-zero : bumpWord (bumpOf 0) ≡ 0
-unfolding bumpWord bumpOf
+bump-zero : bumpWord (blockBump 0) ≡ 0
+unfolding bumpWord blockBump
 bump-zero = refl
 
 bump-cases : (n : ℕ) → bumpFormed n ≡ true
@@ -142,25 +142,25 @@ bump-cases n h =
 pub bump-small : (n : ℕ) → bumpFormed n ≡ true → n < 512
 bump-small n h = ⊎-elim (λ e. omega arith) (λ q. ⊎-elim (λ p. p .2) (λ p. omega (arith, p .1)) q) (bump-cases n h)
 
-normal-word : (n : ℕ) → n % 16 ≡ 1 → bumpWord (bumpOf n) ≡ 1 + 16 * (n / 16 % 16) + flagOf (bitAt n 256) 256
-unfolding bumpWord bumpOf
+normal-word : (n : ℕ) → n % 16 ≡ 1 → bumpWord (blockBump n) ≡ 1 + 16 * (n / 16 % 16) + flagWord (bitAt n 256) 256
+unfolding bumpWord blockBump
 normal-word n e = rw (eq-eqb (n % 16) 1 e) refl
 
-tangent-word : (n : ℕ) → n % 16 ≡ 2 → bumpWord (bumpOf n) ≡ 2 + 16 * (n / 16 % 16)
-unfolding bumpWord bumpOf
+tangent-word : (n : ℕ) → n % 16 ≡ 2 → bumpWord (blockBump n) ≡ 2 + 16 * (n / 16 % 16)
+unfolding bumpWord blockBump
 tangent-word n e = let d : n % 16 ≡ 1 → ⊥ = λ q. omega arith in rw (ne-eqb (n % 16) 1 d, eq-eqb (n % 16) 2 e) refl
 
 sum1 : (n f : ℕ) → f ≡ 256 * (n / 256 % 2) → n % 16 ≡ 1 → n < 512 → 1 + 16 * (n / 16 % 16) + f ≡ n
 sum1 n f e r s = omega arith
 
-pub bump-word-back : (n : ℕ) → bumpFormed n ≡ true → bumpWord (bumpOf n) ≡ n
+pub bump-word-back : (n : ℕ) → bumpFormed n ≡ true → bumpWord (blockBump n) ≡ n
 bump-word-back n h =
-    ⊎-elim (λ e. ap (λ (k : ℕ). bumpWord (bumpOf k)) e ∙ bump-zero ∙ sym e)
-    (λ q. ⊎-elim (λ p. normal-word n (p .0) ∙ sum1 n (flagOf (bitAt n 256) 256) (flag-bit (n / 256 % 2) 256 (omega arith)) (p .0) (p .2)) (λ p. tangent-word n (p .0) ∙ omega (arith, p .0, p .1)) q)
+    ⊎-elim (λ e. ap (λ (k : ℕ). bumpWord (blockBump k)) e ∙ bump-zero ∙ sym e)
+    (λ q. ⊎-elim (λ p. normal-word n (p .0) ∙ sum1 n (flagWord (bitAt n 256) 256) (flag-bit (n / 256 % 2) 256 (omega arith)) (p .0) (p .2)) (λ p. tangent-word n (p .0) ∙ omega (arith, p .0, p .1)) q)
     (bump-cases n h)
 
-pub bump-unit-small : (n : ℕ) → bumpFormed n ≡ true → bumpUnit (bumpOf n) ≤ 3
-unfolding bumpOf bumpUnit
+pub bump-unit-small : (n : ℕ) → bumpFormed n ≡ true → bumpUnit (blockBump n) ≤ 3
+unfolding blockBump bumpUnit
 bump-unit-small n h = go (eqb (n % 16) 1) (eqb (n % 16) 2)
   where
     small : n / 16 % 16 ≤ 3
@@ -173,8 +173,8 @@ bump-unit-small n h = go (eqb (n % 16) 1) (eqb (n % 16) 2)
 
 -- the shadow word
 
-shadow-zero : shadowWord (shadowOf 0) ≡ 0
-unfolding shadowWord shadowOf
+shadow-zero : shadowWord (blockShadow 0) ≡ 0
+unfolding shadowWord blockShadow
 shadow-zero = refl
 
 shadow-cases : (n : ℕ) → shadowFormed n ≡ true → (n ≡ 0) ⊎ ((n % 16 ≡ 1) × (n / 16 % 16 < 4) × (n < 4096))
@@ -209,18 +209,18 @@ sum-up n x a b c d p q = omega arith
 sum4 : (n a b c d : ℕ) → a ≡ 256 * (n / 256 % 2) → b ≡ 512 * (n / 512 % 2) → c ≡ 1024 * (n / 1024 % 2) → d ≡ 2048 * (n / 2048 % 2) → n % 16 ≡ 1 → n < 4096 → 1 + 16 * (n / 16 % 16) + a + b + c + d ≡ n
 sum4 n a b c d p q r s e h = rw (p, q, r, s) (sum-up n (1 + 16 * (n / 16 % 16)) (n / 256 % 2) (n / 512 % 2) (n / 1024 % 2) (n / 2048 % 2) (sum-low n e) (sum-high n h))
 
-shadow-word-of : (n : ℕ) → n % 16 ≡ 1 → shadowWord (shadowOf n) ≡ 1 + 16 * (n / 16 % 16) + flagOf (bitAt n 256) 256 + flagOf (bitAt n 512) 512 + flagOf (bitAt n 1024) 1024 + flagOf (bitAt n 2048) 2048
-unfolding shadowWord shadowOf
+shadow-word-of : (n : ℕ) → n % 16 ≡ 1 → shadowWord (blockShadow n) ≡ 1 + 16 * (n / 16 % 16) + flagWord (bitAt n 256) 256 + flagWord (bitAt n 512) 512 + flagWord (bitAt n 1024) 1024 + flagWord (bitAt n 2048) 2048
+unfolding shadowWord blockShadow
 shadow-word-of n e = rw (eq-eqb (n % 16) 1 e) refl
 
-pub shadow-word-back : (n : ℕ) → shadowFormed n ≡ true → shadowWord (shadowOf n) ≡ n
+pub shadow-word-back : (n : ℕ) → shadowFormed n ≡ true → shadowWord (blockShadow n) ≡ n
 shadow-word-back n h =
-    ⊎-elim (λ e. ap (λ (k : ℕ). shadowWord (shadowOf k)) e ∙ shadow-zero ∙ sym e)
+    ⊎-elim (λ e. ap (λ (k : ℕ). shadowWord (blockShadow k)) e ∙ shadow-zero ∙ sym e)
     (λ p. shadow-word-of n (p .0) ∙ sum4 n _ _ _ _ (flag-bit (n / 256 % 2) 256 (omega arith)) (flag-bit (n / 512 % 2) 512 (omega arith)) (flag-bit (n / 1024 % 2) 1024 (omega arith)) (flag-bit (n / 2048 % 2) 2048 (omega arith)) (p .0) (p .2))
     (shadow-cases n h)
 
-pub shadow-unit-small : (n : ℕ) → shadowFormed n ≡ true → shadowUnit (shadowOf n) ≤ 3
-unfolding shadowOf shadowUnit
+pub shadow-unit-small : (n : ℕ) → shadowFormed n ≡ true → shadowUnit (blockShadow n) ≤ 3
+unfolding blockShadow shadowUnit
 shadow-unit-small n h = go (eqb (n % 16) 1)
   where
     small : n / 16 % 16 ≤ 3
@@ -248,8 +248,8 @@ pub record LookupBack (v : ℕ → ℕ) (o : OptionalLookup) : Type 0 where
   pub absolute : absoluteWord o ≡ v 2
   pub scale : scaleWord o ≡ v 3
 
-pub lookup-words-back : (v : ℕ → ℕ) → LookupFormed v → LookupBack v (optionalLookupOf v)
-unfolding optionalLookupOf lookupOf presenceWord inputWord absoluteWord scaleWord
+pub lookup-words-back : (v : ℕ → ℕ) → LookupFormed v → LookupBack v (blockOptionalLookup v)
+unfolding blockOptionalLookup blockLookup presenceWord inputWord absoluteWord scaleWord
 lookup-words-back v f = go (eqb (v 0) 1) refl (f .missing)
   where
     go : (b : Bool) → eqb (v 0) 1 ≡ b → (b || zeros v 1 3) ≡ true → LookupBack v (cond b (Present (record { input = v 1; absolute = eqb (v 2) 1; scale = floatOf (v 3) })) Missing)
@@ -271,8 +271,8 @@ lookup-words-back v f = go (eqb (v 0) 1) refl (f .missing)
 
 -- a distance's words
 pub distance-words-back : (v : ℕ → ℕ) → v 28 < 2 ^ 32 → v 29 < 2 ^ 32 → floatFormed (v 28) ≡ true → floatFormed (v 29) ≡ true → (bitAt (v 32) 16 || zeros v 28 2) ≡ true
-    → (biasWord (distanceOf v) ≡ v 28) × (distanceScaleWord (distanceOf v) ≡ v 29) × (isScaled (distanceOf v) ≡ bitAt (v 32) 16)
-unfolding distanceOf biasWord distanceScaleWord isScaled
+    → (biasWord (blockDistance v) ≡ v 28) × (distanceScaleWord (blockDistance v) ≡ v 29) × (isScaled (blockDistance v) ≡ bitAt (v 32) 16)
+unfolding blockDistance biasWord distanceScaleWord isScaled
 distance-words-back v p q f g h = go (bitAt (v 32) 16) h
   where
     go : (b : Bool) → (b || zeros v 28 2) ≡ true

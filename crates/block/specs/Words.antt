@@ -4,9 +4,10 @@ use mathlib.Core.List.{List, [], _∷_, _++_}
 use mathlib.Core.Bool.{Bool, true, false, cond}
 use lib.Dec.{ltb}
 use lib.ListN.{getD, replicate}
-use lib.Ieee.{Float, nan}
+use lib.Ieee.{Float}
 use mir.Val.{boolByte}
 use Rattle.binary32.specs.Words.{wordOf}
+use Rattle.vectors.specs.Vectors.{at}
 use Rattle.lighting.specs.declared.Lookup.{Lookup}
 use Rattle.lighting.specs.declared.OptionalLookup.{OptionalLookup}
 use Rattle.lighting.specs.declared.OptionalLookup.the-variants.{Missing, Present}
@@ -20,27 +21,23 @@ use Rattle.lighting.specs.declared.OptionalShadow.the-variants.{Unshadowed, Sha
 use Rattle.lighting.specs.declared.Light.{Light}
 use Rattle.lighting.specs.declared.Lighting.{Lighting}
 
--- the float at a place of a vector
-abbrev pub at : List Float → ℕ → Float
-at v i = getD v i nan
-
 -- 1 for true, 0 for false
 abbrev pub bitOf : Bool → ℕ
 bitOf b = boolByte b
 
 -- a flag, in the place that its weight names
-unfoldable pub flagOf : Bool → ℕ → ℕ
-flagOf b weight = cond b weight 0
+unfoldable pub flagWord : Bool → ℕ → ℕ
+flagWord b weight = cond b weight 0
 
 unfoldable pub bumpWord : Bump → ℕ
 bumpWord Flat = 0
-bumpWord (Normal unit rebuild) = 1 + 16 * unit + flagOf rebuild 256
+bumpWord (Normal unit rebuild) = 1 + 16 * unit + flagWord rebuild 256
 bumpWord (Tangent unit) = 2 + 16 * unit
 
 unfoldable pub shadowWord : OptionalShadow → ℕ
 shadowWord Unshadowed = 0
 shadowWord (Shadowed s) =
-    1 + 16 * s .unit + flagOf (s .invert) 256 + flagOf (s .primary) 512 + flagOf (s .secondary) 1024 + flagOf (s .alpha) 2048
+    1 + 16 * s .unit + flagWord (s .invert) 256 + flagWord (s .primary) 512 + flagWord (s .secondary) 1024 + flagWord (s .alpha) 2048
 
 unfoldable pub presenceWord : OptionalLookup → ℕ
 presenceWord Missing = 0
@@ -71,7 +68,7 @@ headWords l =
     ++ (bitOf (l .«fresnel_primary»)
     ∷ bitOf (l .«fresnel_secondary»)
     ∷ bitOf (l .«clamp_highlights»)
-    ∷ (flagOf (l .«needs_half») 1 + flagOf (l .«needs_view») 2)
+    ∷ (flagWord (l .«needs_half») 1 + flagWord (l .«needs_view») 2)
     ∷ [])
     ++ lookupWords (l .distribution0)
     ++ lookupWords (l .distribution1)
@@ -97,13 +94,13 @@ isScaled (Scaled bias scale) = true
 
 unfoldable pub flagsWord : Light → ℕ
 flagsWord l =
-    flagOf (l .directional) 1
-    + flagOf (l .«two_sided») 2
-    + flagOf (l .geometric0) 4
-    + flagOf (l .geometric1) 8
-    + flagOf (isScaled (l .distance)) 16
-    + flagOf (l .spotlight) 32
-    + flagOf (l .shadowed) 64
+    flagWord (l .directional) 1
+    + flagWord (l .«two_sided») 2
+    + flagWord (l .geometric0) 4
+    + flagWord (l .geometric1) 8
+    + flagWord (isScaled (l .distance)) 16
+    + flagWord (l .spotlight) 32
+    + flagWord (l .shadowed) 64
 
 unfoldable pub lightWords : Light → List ℕ
 lightWords l =

@@ -5,16 +5,16 @@ use mathlib.Core.List.{List}
 use lib.Ieee.{Float}
 use Rattle.lighting.specs.declared.Light.{Light}
 use Rattle.lighting.specs.declared.Lighting.{Lighting}
-use Rattle.block.specs.Reading.{vectorOf, lightingWith}
+use Rattle.block.specs.Reading.{blockVector, blockLightingWith}
 use Rattle.block_head.specs.declared.Settings.{Settings}
 use Rattle.block_head.specs.declared.Lookups.{Lookups}
-use Rattle.block_head.specs.Parts.{settingsOf, lookupsOf}
+use Rattle.block_head.specs.Parts.{headSettings, headLookups}
 
 pub lighting-made : (w : ℕ → ℕ) (s : Settings) (o : Lookups) (ls : List Light) (n : ℕ) (a : List Float)
-    → s ≡ settingsOf w
-    → o ≡ lookupsOf w
+    → s ≡ headSettings w
+    → o ≡ headLookups w
     → n ≡ w 1
-    → a ≡ vectorOf w 36
+    → a ≡ blockVector w 36
     → _≡_ {A = Lighting} (record {
       lights = ls;
       «light_count» = n;
@@ -34,6 +34,6 @@ pub lighting-made : (w : ℕ → ℕ) (s : Settings) (o : Lookups) (ls : List Li
       «needs_view» = s .«needs_view»;
       bump = s .bump;
       shadow = s .shadow;
-    }) (lightingWith w ls)
-unfolding settingsOf lookupsOf
+    }) (blockLightingWith w ls)
+unfolding headSettings headLookups
 lighting-made w s o ls n a p q t u = rw (p, q, t, u) refl

@@ -2,17 +2,17 @@
 use Prim.Native.Nat.{ℕ}
 use lib.Dec.{eqb}
 use Rattle.block.specs.Formed.{from, lookupAt, bitAt}
-use Rattle.block.specs.Reading.{bumpOf, shadowOf, lookupOf, optionalLookupOf}
+use Rattle.block.specs.Reading.{blockBump, blockShadow, blockLookup, blockOptionalLookup}
 use Rattle.block_head.specs.declared.Settings.{Settings}
 use Rattle.block_head.specs.declared.Lookups.{Lookups}
 
 -- the words before the lookups but the count
-unfoldable pub settingsOf : (ℕ → ℕ) → Settings
-settingsOf w =
+unfoldable pub headSettings : (ℕ → ℕ) → Settings
+headSettings w =
     record {
       config = w 0;
-      bump = bumpOf (w 2);
-      shadow = shadowOf (w 3);
+      bump = blockBump (w 2);
+      shadow = blockShadow (w 3);
       «fresnel_primary» = eqb (w 4) 1;
       «fresnel_secondary» = eqb (w 5) 1;
       «clamp_highlights» = eqb (w 6) 1;
@@ -20,14 +20,14 @@ settingsOf w =
       «needs_view» = bitAt (w 7) 2;
     }
 
-unfoldable pub lookupsOf : (ℕ → ℕ) → Lookups
-lookupsOf w =
+unfoldable pub headLookups : (ℕ → ℕ) → Lookups
+headLookups w =
     record {
-      distribution0 = optionalLookupOf (from w (lookupAt 0));
-      distribution1 = optionalLookupOf (from w (lookupAt 1));
-      fresnel = optionalLookupOf (from w (lookupAt 2));
-      «reflect_red» = optionalLookupOf (from w (lookupAt 3));
-      «reflect_green» = optionalLookupOf (from w (lookupAt 4));
-      «reflect_blue» = optionalLookupOf (from w (lookupAt 5));
-      spotlight = lookupOf (from w (lookupAt 6));
+      distribution0 = blockOptionalLookup (from w (lookupAt 0));
+      distribution1 = blockOptionalLookup (from w (lookupAt 1));
+      fresnel = blockOptionalLookup (from w (lookupAt 2));
+      «reflect_red» = blockOptionalLookup (from w (lookupAt 3));
+      «reflect_green» = blockOptionalLookup (from w (lookupAt 4));
+      «reflect_blue» = blockOptionalLookup (from w (lookupAt 5));
+      spotlight = blockLookup (from w (lookupAt 6));
     }

@@ -15,9 +15,9 @@ ghost use Prim.Native.Nat.{_+_, _≤_};
 ghost use lib.ListN.{length};
 ghost use Rattle.sources.specs.Sources.{given};
 ghost use Rattle.block.specs.Formed.{words, from};
-ghost use Rattle.block.specs.Reading.{bumpOf, shadowOf, lookupOf, optionalLookupOf, lightingWith};
+ghost use Rattle.block.specs.Reading.{blockBump, blockShadow, blockLookup, blockOptionalLookup, blockLightingWith};
 ghost use Rattle.block.specs.Answers.{nanFree};
-ghost use Rattle.block_head.specs.Parts.{settingsOf, lookupsOf};
+ghost use Rattle.block_head.specs.Parts.{headSettings, headLookups};
 
 // The words before the lookups but the count.
 struct Settings {
@@ -42,7 +42,7 @@ struct Lookups {
 }
 
 fn bump_of(n: u32) -> Bump
-    ensures { λ r. ⌜ r ≡ bumpOf n ⌝ }
+    ensures { λ r. ⌜ r ≡ blockBump n ⌝ }
 {
     if n % 16 == 1 {
         Bump::Normal((n / 16 % 16) as usize, n / 256 % 2 == 1)
@@ -54,7 +54,7 @@ fn bump_of(n: u32) -> Bump
 }
 
 fn shadow_of(n: u32) -> OptionalShadow
-    ensures { λ r. ⌜ r ≡ shadowOf n ⌝ }
+    ensures { λ r. ⌜ r ≡ blockShadow n ⌝ }
 {
     if n % 16 == 1 {
         OptionalShadow::Shadowed(Shadow {
@@ -72,7 +72,7 @@ fn shadow_of(n: u32) -> OptionalShadow
 // The lookup of the four words from `at` on: presence, input, absolute, scale.
 fn lookup_of(block: &[u32], bytes: &[u8], at: usize) -> Lookup
     requires { ⌜ (length (given (now block) (now bytes)) ≡ 328) × (at + 4 ≤ 328) ⌝ }
-    ensures { λ r. ⌜ r ≡ lookupOf (from (words (given (now (block .entry)) (now (bytes .entry)))) at) ⌝ }
+    ensures { λ r. ⌜ r ≡ blockLookup (from (words (given (now (block .entry)) (now (bytes .entry)))) at) ⌝ }
 {
     Lookup {
         input: word(block, bytes, at + 1),
@@ -83,7 +83,7 @@ fn lookup_of(block: &[u32], bytes: &[u8], at: usize) -> Lookup
 
 fn optional_lookup_of(block: &[u32], bytes: &[u8], at: usize) -> OptionalLookup
     requires { ⌜ (length (given (now block) (now bytes)) ≡ 328) × (at + 4 ≤ 328) ⌝ }
-    ensures { λ r. ⌜ r ≡ optionalLookupOf (from (words (given (now (block .entry)) (now (bytes .entry)))) at) ⌝ }
+    ensures { λ r. ⌜ r ≡ blockOptionalLookup (from (words (given (now (block .entry)) (now (bytes .entry)))) at) ⌝ }
 {
     if word(block, bytes, at) == 1 {
         OptionalLookup::Present(lookup_of(block, bytes, at))
@@ -94,7 +94,7 @@ fn optional_lookup_of(block: &[u32], bytes: &[u8], at: usize) -> OptionalLookup
 
 fn settings_of(block: &[u32], bytes: &[u8]) -> Settings
     requires { ⌜ length (given (now block) (now bytes)) ≡ 328 ⌝ }
-    ensures { λ r. ⌜ r ≡ settingsOf (words (given (now (block .entry)) (now (bytes .entry)))) ⌝ }
+    ensures { λ r. ⌜ r ≡ headSettings (words (given (now (block .entry)) (now (bytes .entry)))) ⌝ }
 {
     let needs = word(block, bytes, 7);
     Settings {
@@ -111,7 +111,7 @@ fn settings_of(block: &[u32], bytes: &[u8]) -> Settings
 
 fn lookups_of(block: &[u32], bytes: &[u8]) -> Lookups
     requires { ⌜ length (given (now block) (now bytes)) ≡ 328 ⌝ }
-    ensures { λ r. ⌜ r ≡ lookupsOf (words (given (now (block .entry)) (now (bytes .entry)))) ⌝ }
+    ensures { λ r. ⌜ r ≡ headLookups (words (given (now (block .entry)) (now (bytes .entry)))) ⌝ }
 {
     Lookups {
         distribution0: optional_lookup_of(block, bytes, 8),
@@ -135,7 +135,7 @@ pub fn light_count(block: &[u32], bytes: &[u8]) -> usize
 // The lighting of a block that isn't off, with these lights. The block shader reads them where it needs them, and has blank ones here.
 pub fn lighting_with(block: &[u32], bytes: &[u8], plain: bool, lights: [Light; 8]) -> Lighting
     requires { ⌜ (length (given (now block) (now bytes)) ≡ 328) × (plain ≡ true → nanFree (words (given (now block) (now bytes))) ≡ true) ⌝ }
-    ensures { λ r. ⌜ r ≡ lightingWith (words (given (now (block .entry)) (now (bytes .entry)))) lights ⌝ }
+    ensures { λ r. ⌜ r ≡ blockLightingWith (words (given (now (block .entry)) (now (bytes .entry)))) lights ⌝ }
 {
     let settings = settings_of(block, bytes);
     let bump = settings.bump;

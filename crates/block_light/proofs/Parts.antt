@@ -10,27 +10,27 @@ use Rattle.lighting.specs.declared.LightNumber.{LightNumber}
 use Rattle.lighting.specs.declared.Distance.{Distance}
 use Rattle.lighting.specs.declared.Light.{Light}
 use Rattle.block.specs.Formed.{from, bitAt}
-use Rattle.block.specs.Reading.{vectorOf, distanceOf, lightOf}
+use Rattle.block.specs.Reading.{blockVector, blockDistance, blockLight}
 
-pub vector-from : (w : ℕ → ℕ) (i j : ℕ) → vectorOf w (i + j) ≡ vectorOf (from w i) j
-unfolding vectorOf
+pub vector-from : (w : ℕ → ℕ) (i j : ℕ) → blockVector w (i + j) ≡ blockVector (from w i) j
+unfolding blockVector
 vector-from w i j = rw (add-assoc i j 1, add-assoc i j 2) refl
 
-pub vector-first : (w : ℕ → ℕ) (i : ℕ) → vectorOf w i ≡ vectorOf (from w i) 0
-unfolding vectorOf
+pub vector-first : (w : ℕ → ℕ) (i : ℕ) → blockVector w i ≡ blockVector (from w i) 0
+unfolding blockVector
 vector-first w i = rw (add-zero i) refl
 
 abbrev pub numbered : ℕ → LightNumber
 numbered n = record { 0 = n }
 
-pub light-made : (v : ℕ → ℕ) (a b c d e f g : List Float) (h : Distance) (n : LightNumber) (k : ℕ) → a ≡ vectorOf v 0
-    → b ≡ vectorOf v 4
-    → c ≡ vectorOf v 8
-    → d ≡ vectorOf v 12
-    → e ≡ vectorOf v 16
-    → f ≡ vectorOf v 20
-    → g ≡ vectorOf v 24
-    → h ≡ distanceOf v
+pub light-made : (v : ℕ → ℕ) (a b c d e f g : List Float) (h : Distance) (n : LightNumber) (k : ℕ) → a ≡ blockVector v 0
+    → b ≡ blockVector v 4
+    → c ≡ blockVector v 8
+    → d ≡ blockVector v 12
+    → e ≡ blockVector v 16
+    → f ≡ blockVector v 20
+    → g ≡ blockVector v 24
+    → h ≡ blockDistance v
     → n ≡ numbered (v 33)
     → k ≡ v 32
     → _≡_ {A = Light} (record {
@@ -49,6 +49,6 @@ pub light-made : (v : ℕ → ℕ) (a b c d e f g : List Float) (h : Distance) (
       spotlight = bitAt k 32;
       shadowed = bitAt k 64;
       number = n;
-    }) (lightOf v)
-unfolding lightOf
+    }) (blockLight v)
+unfolding blockLight
 light-made v a b c d e f g h n k p0 p1 p2 p3 p4 p5 p6 p7 p8 p9 = rw (p0, p1, p2, p3, p4, p5, p6, p7, p8, p9, div-one (v 32)) refl

@@ -11,13 +11,13 @@ ghost use Prim.Native.Nat.{_+_, _≤_};
 ghost use lib.ListN.{length};
 ghost use Rattle.sources.specs.Sources.{given};
 ghost use Rattle.block.specs.Formed.{words, from};
-ghost use Rattle.block.specs.Reading.{vectorOf, distanceOf, lightOf};
+ghost use Rattle.block.specs.Reading.{blockVector, blockDistance, blockLight};
 ghost use Rattle.block.specs.Answers.{nanFree};
 
 // The vector of the three words from `at` on.
 fn vector_of(block: &[u32], bytes: &[u8], at: usize) -> [f32; 3]
     requires { ⌜ (length (given (now block) (now bytes)) ≡ 328) × (at + 3 ≤ 328) ⌝ }
-    ensures { λ r. ⌜ r ≡ vectorOf (words (given (now (block .entry)) (now (bytes .entry)))) at ⌝ }
+    ensures { λ r. ⌜ r ≡ blockVector (words (given (now (block .entry)) (now (bytes .entry)))) at ⌝ }
 {
     [
         float_of(word(block, bytes, at)),
@@ -29,7 +29,7 @@ fn vector_of(block: &[u32], bytes: &[u8], at: usize) -> [f32; 3]
 // The same vector, its words untested if they are plain.
 pub fn plain_vector(block: &[u32], bytes: &[u8], at: usize, plain: bool) -> [f32; 3]
     requires { ⌜ (length (given (now block) (now bytes)) ≡ 328) × (at + 3 ≤ 328) × (plain ≡ true → nanFree (words (given (now block) (now bytes))) ≡ true) ⌝ }
-    ensures { λ r. ⌜ r ≡ vectorOf (words (given (now (block .entry)) (now (bytes .entry)))) at ⌝ }
+    ensures { λ r. ⌜ r ≡ blockVector (words (given (now (block .entry)) (now (bytes .entry)))) at ⌝ }
 {
     if plain {
         [
@@ -45,7 +45,7 @@ pub fn plain_vector(block: &[u32], bytes: &[u8], at: usize, plain: bool) -> [f32
 // The distance of the light whose words start at `at`.
 fn distance_of(block: &[u32], bytes: &[u8], at: usize) -> Distance
     requires { ⌜ (length (given (now block) (now bytes)) ≡ 328) × (at + 36 ≤ 328) ⌝ }
-    ensures { λ r. ⌜ r ≡ distanceOf (from (words (given (now (block .entry)) (now (bytes .entry)))) at) ⌝ }
+    ensures { λ r. ⌜ r ≡ blockDistance (from (words (given (now (block .entry)) (now (bytes .entry)))) at) ⌝ }
 {
     if word(block, bytes, at + 32) / 16 % 2 == 1 {
         let bias = float_of(word(block, bytes, at + 28));
@@ -65,7 +65,7 @@ fn light_number(word: u32) -> LightNumber
 // The light of the 36 words from `at` on.
 pub fn light_of(block: &[u32], bytes: &[u8], at: usize, plain: bool) -> Light
     requires { ⌜ (length (given (now block) (now bytes)) ≡ 328) × (at + 36 ≤ 328) × (plain ≡ true → nanFree (words (given (now block) (now bytes))) ≡ true) ⌝ }
-    ensures { λ r. ⌜ r ≡ lightOf (from (words (given (now (block .entry)) (now (bytes .entry)))) at) ⌝ }
+    ensures { λ r. ⌜ r ≡ blockLight (from (words (given (now (block .entry)) (now (bytes .entry)))) at) ⌝ }
 {
     let flags = word(block, bytes, at + 32);
     Light {

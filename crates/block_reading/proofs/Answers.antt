@@ -8,10 +8,10 @@ use lib.Dec.{eqb}
 use lib.ListN.{length}
 use Rattle.refusals.specs.Lengths.{blockRefusal, _else_}
 use Rattle.lighting.specs.declared.Lighting.{Lighting}
-use Rattle.lighting.specs.Blank.{blankLighting}
+use Rattle.lighting.specs.Blank.{blankLighting, off}
 use Rattle.block.specs.declared.BlockForm.{BlockForm}
 use Rattle.block.specs.Formed.{words, allZero, wellFormed}
-use Rattle.block.specs.Reading.{lightingOf, off, on, readingOf}
+use Rattle.block.specs.Reading.{blockLighting, on, blockReading}
 use Rattle.block.specs.Answers.{nanFree, formOf, blockForm, wordsRefusal, Read, read, readRefusal, reads}
 use Rattle.block.specs.TestLaws.{never}
 use Rattle.block_reading.specs.Answer.{formRefusal, isLit, isPlain}
@@ -32,13 +32,13 @@ module _ (b : List ℕ) (f : BlockForm) (form : f ≡ blockForm b) (lit : Bool) 
   can-read h p e = (is-lit b (rw form at (sym told ∙ h)) .sized, λ k. is-plain b (rw form at (sym e ∙ k)))
 
   module _ (number : ℕ) (refused : number ≡ formRefusal f (length b)) (l : Lighting) where
-    pub read-lit : lit ≡ true → l ≡ lightingOf (words b) → read number (on l) ≡ reads b
-    unfolding isLit formRefusal blockForm formOf reads readRefusal blockRefusal wordsRefusal readingOf
+    pub read-lit : lit ≡ true → l ≡ blockLighting (words b) → read number (on l) ≡ reads b
+    unfolding isLit formRefusal blockForm formOf reads readRefusal blockRefusal wordsRefusal blockReading
     read-lit h p =
         rw (refused, form, p) (go (eqb (length b) 328) (allZero (words b)) (wellFormed (words b)) (nanFree (words b)) refl (rw form at (sym told ∙ h)))
       where
         go : (x z g n : Bool) → eqb (length b) 328 ≡ x → isLit (formBy x z g n) ≡ true
-            → read (formRefusal (formBy x z g n) (length b)) (on (lightingOf (words b))) ≡ readsBy x z g (lightingOf (words b))
+            → read (formRefusal (formBy x z g n) (length b)) (on (blockLighting (words b))) ≡ readsBy x z g (blockLighting (words b))
         go true true g n e k = never k
         go true false true true e k = refl
         go true false true false e k = refl
@@ -46,12 +46,12 @@ module _ (b : List ℕ) (f : BlockForm) (form : f ≡ blockForm b) (lit : Bool) 
         go false z g n e k = never k
 
     pub read-dark : lit ≡ false → l ≡ blankLighting → read number (record { on = false; lighting = l }) ≡ reads b
-    unfolding isLit formRefusal blockForm formOf reads readRefusal blockRefusal wordsRefusal readingOf
+    unfolding isLit formRefusal blockForm formOf reads readRefusal blockRefusal wordsRefusal blockReading
     read-dark h p =
         rw (refused, form, p) (go (eqb (length b) 328) (allZero (words b)) (wellFormed (words b)) (nanFree (words b)) refl (rw form at (sym told ∙ h)))
       where
         go : (x z g n : Bool) → eqb (length b) 328 ≡ x → isLit (formBy x z g n) ≡ false
-            → read (formRefusal (formBy x z g n) (length b)) off ≡ readsBy x z g (lightingOf (words b))
+            → read (formRefusal (formBy x z g n) (length b)) off ≡ readsBy x z g (blockLighting (words b))
         go true true g n e k = refl
         go true false true true e k = never (sym k)
         go true false true false e k = never (sym k)

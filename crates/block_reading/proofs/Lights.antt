@@ -11,20 +11,20 @@ use borrow.Author.Tests.{ltb-false, lt-ltb, le-ltb}
 use Rattle.lighting.specs.declared.Light.{Light}
 use Rattle.lighting.specs.Blank.{blankLight}
 use Rattle.block.specs.Formed.{from, slotAt}
-use Rattle.block.specs.Reading.{lightOf, slotLight, lightsOf}
+use Rattle.block.specs.Reading.{blockLight, blockSlotLight, blockLights}
 
 module _ (w : ℕ → ℕ) where
   abbrev pub filled : ℕ → ℕ → Light
-  filled s k = cond (ltb k s) (slotLight w k) blankLight
+  filled s k = cond (ltb k s) (blockSlotLight w k) blankLight
 
   abbrev pub firstLights : ℕ → List Light
   firstLights s = filled s 0 ∷ filled s 1 ∷ filled s 2 ∷ filled s 3 ∷ filled s 4 ∷ filled s 5 ∷ filled s 6 ∷ filled s 7 ∷ []
 
-  pub lit-slot : (s : ℕ) → s < w 1 → lightOf (from w (slotAt s)) ≡ slotLight w s
-  unfolding slotLight
+  pub lit-slot : (s : ℕ) → s < w 1 → blockLight (from w (slotAt s)) ≡ blockSlotLight w s
+  unfolding blockSlotLight
   lit-slot s h = rw (lt-ltb s (w 1) h) refl
 
-  pub one-more : (s : ℕ) → s < 8 → set (firstLights s) s (slotLight w s) ≡ firstLights (s + 1)
+  pub one-more : (s : ℕ) → s < 8 → set (firstLights s) s (blockSlotLight w s) ≡ firstLights (s + 1)
   one-more zero h = refl
   one-more (suc zero) h = refl
   one-more (suc (suc zero)) h = refl
@@ -35,21 +35,21 @@ module _ (w : ℕ → ℕ) where
   one-more (suc (suc (suc (suc (suc (suc (suc zero))))))) h = refl
   one-more (suc (suc (suc (suc (suc (suc (suc (suc s)))))))) h = absurd (omega arith)
 
-  beyond : (k : ℕ) → w 1 ≤ k → slotLight w k ≡ blankLight
-  unfolding slotLight
+  beyond : (k : ℕ) → w 1 ≤ k → blockSlotLight w k ≡ blankLight
+  unfolding blockSlotLight
   beyond k h = rw (le-ltb k (w 1) h) refl
 
-  kept : (s k : ℕ) → w 1 ≤ s → filled s k ≡ slotLight w k
+  kept : (s k : ℕ) → w 1 ≤ s → filled s k ≡ blockSlotLight w k
   kept s k h = go (ltb k s) refl
     where
-      go : (b : Bool) → ltb k s ≡ b → cond b (slotLight w k) blankLight ≡ slotLight w k
+      go : (b : Bool) → ltb k s ≡ b → cond b (blockSlotLight w k) blankLight ≡ blockSlotLight w k
       go true e = refl
       go false e = let p : s ≤ k = ltb-false k s e in sym (beyond k (omega arith))
 
-  pub all-lit : (s : ℕ) → w 1 ≤ s → firstLights s ≡ lightsOf w
-  unfolding lightsOf
+  pub all-lit : (s : ℕ) → w 1 ≤ s → firstLights s ≡ blockLights w
+  unfolding blockLights
   all-lit s h = rw (kept s 0 h, kept s 1 h, kept s 2 h, kept s 3 h, kept s 4 h, kept s 5 h, kept s 6 h, kept s 7 h) refl
 
-  pub all-eight : firstLights 8 ≡ lightsOf w
-  unfolding lightsOf
+  pub all-eight : firstLights 8 ≡ blockLights w
+  unfolding blockLights
   all-eight = refl

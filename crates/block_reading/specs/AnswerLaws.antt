@@ -10,7 +10,8 @@ use borrow.Author.Tests.{eqb-true, eq-eqb, leb-true}
 use Rattle.block.specs.declared.BlockForm.{BlockForm}
 use Rattle.block.specs.declared.BlockForm.the-variants.{Off, NotWellFormed, NanFree, WithNan}
 use Rattle.block.specs.Formed.{words, allZero, wellFormed}
-use Rattle.block.specs.Reading.{lightingOf, off, on, readingOf}
+use Rattle.lighting.specs.Blank.{off}
+use Rattle.block.specs.Reading.{blockLighting, on, blockReading}
 use Rattle.block.specs.Answers.{nanFree, formOf, blockForm, wordsRefusal}
 use Rattle.block.specs.TestLaws.{never}
 use Rattle.block.specs.FormedLaws.{formed-parts}
@@ -40,14 +41,14 @@ pub record Lit (b : List ℕ) : Type 0 where
   pub some : 1 ≤ words b 1
   pub few : words b 1 ≤ 8
   pub accepted : wordsRefusal (words b) ≡ 0
-  pub reading : readingOf (words b) ≡ on (lightingOf (words b))
+  pub reading : blockReading (words b) ≡ on (blockLighting (words b))
 
 -- and of one that reads as off
 pub record Dark (b : List ℕ) : Type 0 where
   pub sized : length b ≡ 328
   pub zero : allZero (words b) ≡ true
   pub accepted : wordsRefusal (words b) ≡ 0
-  pub reading : readingOf (words b) ≡ off
+  pub reading : blockReading (words b) ≡ off
 
 -- and of a refused one of the right length
 pub record Refused (b : List ℕ) : Type 0 where
@@ -57,7 +58,7 @@ pub record Refused (b : List ℕ) : Type 0 where
 
 module _ (b : List ℕ) where
   pub is-lit : isLit (blockForm b) ≡ true → Lit b
-  unfolding isLit blockForm formOf wordsRefusal readingOf
+  unfolding isLit blockForm formOf wordsRefusal blockReading
   is-lit h = go (eqb (length b) 328) (allZero (words b)) (wellFormed (words b)) (nanFree (words b)) refl refl refl h
     where
       go : (x z g n : Bool) → eqb (length b) 328 ≡ x → allZero (words b) ≡ z → wellFormed (words b) ≡ g → isLit (formBy x z g n) ≡ true → Lit b
@@ -101,7 +102,7 @@ module _ (b : List ℕ) where
   with-nan-lit e = is-lit (rw e refl)
 
   pub is-off : blockForm b ≡ Off → Dark b
-  unfolding blockForm formOf wordsRefusal readingOf
+  unfolding blockForm formOf wordsRefusal blockReading
   is-off e = go (eqb (length b) 328) (allZero (words b)) (wellFormed (words b)) (nanFree (words b)) refl refl (rw e refl)
     where
       go : (x z g n : Bool) → eqb (length b) 328 ≡ x → allZero (words b) ≡ z → isOff (formBy x z g n) ≡ true → Dark b

@@ -19,14 +19,14 @@ ghost use lib.ListN.{length};
 ghost use Rattle.sources.specs.Sources.{given};
 ghost use Rattle.refusals.specs.Numbers.{outcomeNumber};
 ghost use Rattle.block.specs.Formed.{words};
-ghost use Rattle.block.specs.Reading.{lightsOf, lightingOf};
+ghost use Rattle.block.specs.Reading.{blockLights, blockLighting};
 ghost use Rattle.block.specs.Answers.{nanFree, reads};
 ghost use Rattle.block_reading.specs.Answer.{readBy, formRefusal, isLit, isPlain};
 
 // The lights in their slots, blank beyond the count.
 fn lights_of(block: &[u32], bytes: &[u8], plain: bool) -> [Light; 8]
     requires { ⌜ (length (given (now block) (now bytes)) ≡ 328) × (plain ≡ true → nanFree (words (given (now block) (now bytes))) ≡ true) ⌝ }
-    ensures { λ r. ⌜ r ≡ lightsOf (words (given (now (block .entry)) (now (bytes .entry)))) ⌝ }
+    ensures { λ r. ⌜ r ≡ blockLights (words (given (now (block .entry)) (now (bytes .entry)))) ⌝ }
 {
     let blank = blank_light();
     let mut lights = [blank; 8];
@@ -45,7 +45,7 @@ fn lights_of(block: &[u32], bytes: &[u8], plain: bool) -> [Light; 8]
 // The lighting of a block that isn't off.
 pub fn lighting_of(block: &[u32], bytes: &[u8], plain: bool) -> Lighting
     requires { ⌜ (length (given (now block) (now bytes)) ≡ 328) × (plain ≡ true → nanFree (words (given (now block) (now bytes))) ≡ true) ⌝ }
-    ensures { λ r. ⌜ r ≡ lightingOf (words (given (now (block .entry)) (now (bytes .entry)))) ⌝ }
+    ensures { λ r. ⌜ r ≡ blockLighting (words (given (now (block .entry)) (now (bytes .entry)))) ⌝ }
 {
     let lights = lights_of(block, bytes, plain);
     lighting_with(block, bytes, plain, lights)

@@ -6,8 +6,9 @@ use lib.Ieee.{Float}
 use Rattle.binary32.specs.Words.{wordOf}
 use Rattle.lighting.specs.declared.Lookup.{Lookup}
 use Rattle.lighting.specs.declared.OptionalLookup.the-variants.{Missing, Present}
-use Rattle.block.specs.Words.{at, bitOf, presenceWord, inputWord, absoluteWord, scaleWord, lookupWords, vectorWords}
-use Rattle.block_rows.specs.Put.{put}
+use Rattle.vectors.specs.Vectors.{at}
+use Rattle.block.specs.Words.{bitOf, presenceWord, inputWord, absoluteWord, scaleWord, lookupWords, vectorWords}
+use Rattle.block_rows.specs.Put.{putWords}
 
 pub missing-words : lookupWords Missing ≡ 0 ∷ 0 ∷ 0 ∷ 0 ∷ []
 unfolding lookupWords presenceWord inputWord absoluteWord scaleWord
@@ -18,7 +19,7 @@ unfolding lookupWords presenceWord inputWord absoluteWord scaleWord
 present-words l = refl
 
 pub vector-row : (b b′ : List ℕ) (i x y z : ℕ) (v : List Float) → x ≡ wordOf (at v 0) → y ≡ wordOf (at v 1) → z ≡ wordOf (at v 2)
-    → b′ ≡ put b i (x ∷ y ∷ z ∷ 0 ∷ [])
-    → b′ ≡ put b i (vectorWords v)
+    → b′ ≡ putWords b i (x ∷ y ∷ z ∷ 0 ∷ [])
+    → b′ ≡ putWords b i (vectorWords v)
 unfolding vectorWords
 vector-row b b′ i x y z v p q r e = rw (p, q, r) at e

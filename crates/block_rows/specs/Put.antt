@@ -4,5 +4,5 @@ use mathlib.Core.List.{List}
 use lib.Seq.{sets}
 
 -- the block with the words ws from i on
-unfoldable pub put : List ℕ → ℕ → List ℕ → List ℕ
-put b i ws = sets b i ws
+unfoldable pub putWords : List ℕ → ℕ → List ℕ → List ℕ
+putWords b i ws = sets b i ws

@@ -4,13 +4,13 @@ ghost use mathlib.Core.Path.{_≡_};
 ghost use mathlib.Core.List.{[], _∷_};
 ghost use Prim.Native.Nat.{_+_, _≤_};
 ghost use lib.ListN.{length, replicate};
-ghost use Rattle.block_rows.specs.Put.{put};
+ghost use Rattle.block_rows.specs.Put.{putWords};
 ghost use Rattle.block.specs.Words.{lookupWords, vectorWords};
 
 // Four words from `at` on: the block is rows of four.
 pub fn put_row(block: &mut [u32], at: usize, a: u32, b: u32, c: u32, d: u32)
     requires { ⌜ at + 4 ≤ length (now block) ⌝ }
-    ensures { λ _. ⌜ now (block .exit) ≡ put (now (block .entry)) at (a ∷ b ∷ c ∷ d ∷ []) ⌝ }
+    ensures { λ _. ⌜ now (block .exit) ≡ putWords (now (block .entry)) at (a ∷ b ∷ c ∷ d ∷ []) ⌝ }
 {
     block[at] = a;
     block[at + 1] = b;
@@ -21,7 +21,7 @@ pub fn put_row(block: &mut [u32], at: usize, a: u32, b: u32, c: u32, d: u32)
 // Presence, input, absolute, scale.
 pub fn put_lookup(block: &mut [u32], at: usize, lookup: OptionalLookup)
     requires { ⌜ at + 4 ≤ length (now block) ⌝ }
-    ensures { λ _. ⌜ now (block .exit) ≡ put (now (block .entry)) at (lookupWords lookup) ⌝ }
+    ensures { λ _. ⌜ now (block .exit) ≡ putWords (now (block .entry)) at (lookupWords lookup) ⌝ }
 {
     match lookup {
         OptionalLookup::Missing => put_row(block, at, 0, 0, 0, 0),
@@ -39,7 +39,7 @@ pub fn put_lookup(block: &mut [u32], at: usize, lookup: OptionalLookup)
 // Three floats and padding.
 pub fn put_vector(block: &mut [u32], at: usize, v: [f32; 3])
     requires { ⌜ at + 4 ≤ length (now block) ⌝ }
-    ensures { λ _. ⌜ now (block .exit) ≡ put (now (block .entry)) at (vectorWords v) ⌝ }
+    ensures { λ _. ⌜ now (block .exit) ≡ putWords (now (block .entry)) at (vectorWords v) ⌝ }
 {
     put_row(
         block,
@@ -54,7 +54,7 @@ pub fn put_vector(block: &mut [u32], at: usize, v: [f32; 3])
 // 36 zeros.
 pub fn put_zeros(block: &mut [u32], at: usize)
     requires { ⌜ at + 36 ≤ length (now block) ⌝ }
-    ensures { λ _. ⌜ now (block .exit) ≡ put (now (block .entry)) at (replicate 36 0) ⌝ }
+    ensures { λ _. ⌜ now (block .exit) ≡ putWords (now (block .entry)) at (replicate 36 0) ⌝ }
 {
     let mut i = 0;
     while i < 36 {

@@ -12,7 +12,8 @@ use Rattle.block.specs.declared.BlockForm.{BlockForm}
 use Rattle.block.specs.declared.BlockForm.the-variants.{Off as OffForm, NotWellFormed as BadForm, NanFree, WithNan}
 use Rattle.block.specs.Formed.{words, allZero, wellFormed}
 use Rattle.lighting.specs.declared.OptionalLighting.{OptionalLighting}
-use Rattle.block.specs.Reading.{off, on, lightingOf, readingOf}
+use Rattle.lighting.specs.Blank.{off}
+use Rattle.block.specs.Reading.{on, blockLighting, blockReading}
 use Rattle.block.specs.Answers.{nanFree, formOf, blockForm, wordsRefusal}
 use Rattle.block_shading.specs.BlockShading.{Shaded, shaded, eightOf, blockShadingRefusal, shadedBy, blockShadingIf, blockShading}
 use Rattle.block_shading.specs.Answers.{isOff}
@@ -37,12 +38,12 @@ module _ (w : ℕ → ℕ) where
   unfolding wordsRefusal
   refused-bad z f = rw (z, f) refl
 
-  reads-off : allZero w ≡ true → readingOf w ≡ off
-  unfolding readingOf
+  reads-off : allZero w ≡ true → blockReading w ≡ off
+  unfolding blockReading
   reads-off z = rw z refl
 
-  reads-on : allZero w ≡ false → readingOf w ≡ on (lightingOf w)
-  unfolding readingOf
+  reads-on : allZero w ≡ false → blockReading w ≡ on (blockLighting w)
+  unfolding blockReading
   reads-on z = rw z refl
 
 module _ (block tables fragment answer : List ℕ) where
@@ -67,7 +68,7 @@ module _ (block tables fragment answer : List ℕ) where
     unfolding blockShadingRefusal blockRefusal tablesRefusal fragmentRefusal answerRefusal
     passes = simp (eq-eqb (length block) 328 b, eq-eqb (length tables) 12288 t, eq-eqb (length fragment) 23 f, eq-eqb (length answer) 8 a)
 
-    lit : (r : OptionalLighting) → readingOf (words block) ≡ r → blockShadingIf 0 block tables fragment answer ≡ shadedBy r tables fragment answer
+    lit : (r : OptionalLighting) → blockReading (words block) ≡ r → blockShadingIf 0 block tables fragment answer ≡ shadedBy r tables fragment answer
     unfolding blockShadingIf
     lit r e = ap (λ (x : OptionalLighting). shadedBy x tables fragment answer) e
 
@@ -76,15 +77,15 @@ module _ (block tables fragment answer : List ℕ) where
     numbered k e = ap (λ (n : ℕ). blockShadingIf n block tables fragment answer) (passes ∙ e)
 
     cases : (zero formed : Bool) → allZero (words block) ≡ zero → wellFormed (words block) ≡ formed
-        → blockShading block tables fragment answer ≡ cond zero (shaded 100 answer) (cond formed (shaded 0 (eightOf (lightingOf (words block)) tables fragment)) (shaded 7 answer))
+        → blockShading block tables fragment answer ≡ cond zero (shaded 100 answer) (cond formed (shaded 0 (eightOf (blockLighting (words block)) tables fragment)) (shaded 7 answer))
     unfolding blockShadingIf shadedBy
     cases true formed z w = numbered 0 (passed-off (words block) z) ∙ lit off (reads-off (words block) z)
-    cases false true z w = numbered 0 (passed-lit (words block) z w) ∙ lit (on (lightingOf (words block))) (reads-on (words block) z)
+    cases false true z w = numbered 0 (passed-lit (words block) z w) ∙ lit (on (blockLighting (words block))) (reads-on (words block) z)
     cases false false z w = numbered 7 (refused-bad (words block) z w)
 
     -- with the right lengths, by the form of the block's words
 
-    pub lit-answer : isLit (blockForm block) ≡ true → shaded 0 (eightOf (lightingOf (words block)) tables fragment) ≡ blockShading block tables fragment answer
+    pub lit-answer : isLit (blockForm block) ≡ true → shaded 0 (eightOf (blockLighting (words block)) tables fragment) ≡ blockShading block tables fragment answer
     lit-answer h = let k = is-lit block h in sym (cases false true (k .not-off) (k .formed))
 
     pub off-answer : isOff (blockForm block) ≡ true → shaded 100 answer ≡ blockShading block tables fragment answer

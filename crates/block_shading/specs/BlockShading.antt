@@ -7,7 +7,7 @@ use Rattle.refusals.specs.Lengths.{blockRefusal, tablesRefusal, fragmentRefusal
 use Rattle.lighting.specs.declared.Lighting.{Lighting}
 use Rattle.lighting.specs.declared.OptionalLighting.{OptionalLighting}
 use Rattle.block.specs.Formed.{words}
-use Rattle.block.specs.Reading.{readingOf}
+use Rattle.block.specs.Reading.{blockReading}
 use Rattle.block.specs.Answers.{wordsRefusal}
 use Rattle.shading.specs.Shade.{shadeOf}
 use Rattle.fragments.specs.Fragment.{quaternionOf, viewOf, texelsOf}
@@ -40,7 +40,7 @@ shadedBy r tables fragment answer =
 
 -- a refusal leaves the answer untouched
 unfoldable pub blockShadingIf : ℕ → List ℕ → List ℕ → List ℕ → List ℕ → Shaded
-blockShadingIf zero block tables fragment answer = shadedBy (readingOf (words block)) tables fragment answer
+blockShadingIf zero block tables fragment answer = shadedBy (blockReading (words block)) tables fragment answer
 blockShadingIf (suc k) block tables fragment answer = shaded (suc k) answer
 
 -- block, tables, fragment, answer

@@ -17,7 +17,7 @@ use Rattle.writing.specs.Writing.{out, puts}
 use Rattle.writing.specs.WritingLaws.{put-size, put-list, put-front}
 use Rattle.printing.specs.Text.{refusedLine}
 use Rattle.capture_contents.specs.Contents.{contents, sized, registersRight, shaped}
-use Rattle.capture_check.specs.Refusal.{wordsRefusal, refusal}
+use Rattle.capture_check.specs.Refusal.{captureWordsRefusal, captureRefusal}
 use Rattle.capture_calls.specs.Machine.{largestOutput}
 use Rattle.capture_answers.specs.declared.Answer.{Answer}
 use Rattle.capture_answers.specs.Answers.{numberBy, sizeOf, capturedBy}
@@ -25,8 +25,8 @@ use Rattle.capture_printed.specs.Printed.{printedIf, printed, captures}
 use Rattle.capture_printed.specs.PrintedLaws.{printed-refused, printed-fits}
 
 -- 0, 3 or 8
-refusal-small : (w : List ℕ) → wordsRefusal w < 1000
-unfolding wordsRefusal
+refusal-small : (w : List ℕ) → captureWordsRefusal w < 1000
+unfolding captureWordsRefusal
 refusal-small w = go (shaped w) (registersRight w (contents w))
   where
     go : (a b : Bool) → cond {A = ℕ} a (cond b 0 3) 8 < 1000
@@ -47,28 +47,28 @@ number-refused BadCapture w = printed-refused 7 w
 number-refused WrongFragment w = printed-refused 8 w
 
 -- a refused outcome of the check
-module _ (w : List ℕ) (o : Outcome) (k : Refusal) (p : o ≡ Refused k) (e : outcomeNumber o ≡ wordsRefusal w) where
-  pub refused-number : numberOf k ≡ wordsRefusal w
+module _ (w : List ℕ) (o : Outcome) (k : Refusal) (p : o ≡ Refused k) (e : outcomeNumber o ≡ captureWordsRefusal w) where
+  pub refused-number : numberOf k ≡ captureWordsRefusal w
   refused-number = ap outcomeNumber (sym p) ∙ e
 
   pub refused-small : (n : ℕ) → n ≡ numberOf k → n < 1000
   refused-small n q = rw (q ∙ refused-number) (refusal-small w)
 
-  pub refused-prints : (n : ℕ) → n ≡ numberOf k → refusedLine n ≡ printedIf (wordsRefusal w) w
+  pub refused-prints : (n : ℕ) → n ≡ numberOf k → refusedLine n ≡ printedIf (captureWordsRefusal w) w
   refused-prints n q = rw (q, ← refused-number) (sym (number-refused k w))
 
 -- an input by its size
 module _ (input : List ℕ) where
-  pub printed-bad : sized (length input) ≡ false → (8 ≡ refusal input) × (refusedLine 8 ≡ printed input)
-  unfolding printed printedIf refusal
+  pub printed-bad : sized (length input) ≡ false → (8 ≡ captureRefusal input) × (refusedLine 8 ≡ printed input)
+  unfolding printed printedIf captureRefusal
   printed-bad e = rw e (refl, refl)
 
-  pub printed-good : sized (length input) ≡ true → (wordsRefusal (wordsOf input) ≡ refusal input) × (printedIf (wordsRefusal (wordsOf input)) (wordsOf input) ≡ printed input)
-  unfolding printed refusal
+  pub printed-good : sized (length input) ≡ true → (captureWordsRefusal (wordsOf input) ≡ captureRefusal input) × (printedIf (captureWordsRefusal (wordsOf input)) (wordsOf input) ≡ printed input)
+  unfolding printed captureRefusal
   printed-good e = rw e (refl, refl)
 
   -- an answer whose text was put from the output's start
-  pub captures-is : (o o′ : List ℕ) (a : Answer) → largestOutput ≤ length o → numberBy a ≡ refusal input → out o′ (sizeOf a) ≡ puts (out o 0) (printed input) → capturedBy a o′ ≡ captures input o
+  pub captures-is : (o o′ : List ℕ) (a : Answer) → largestOutput ≤ length o → numberBy a ≡ captureRefusal input → out o′ (sizeOf a) ≡ puts (out o 0) (printed input) → capturedBy a o′ ≡ captures input o
   unfolding captures
   captures-is o o′ a h n e =
       let s : sizeOf a ≡ length (printed input) = put-size o o′ (printed input) (sizeOf a) e in

@@ -11,7 +11,7 @@ ghost use mathlib.Core.Path.{_≡_};
 ghost use Prim.Native.Nat.{_≤_};
 ghost use lib.ListN.{length};
 ghost use Rattle.writing.specs.Writing.{out as outAt, puts};
-ghost use Rattle.capture_check.specs.Refusal.{wordsRefusal};
+ghost use Rattle.capture_check.specs.Refusal.{captureWordsRefusal};
 ghost use Rattle.capture_calls.specs.Machine.{largestOutput};
 ghost use Rattle.capture_answers.specs.Answers.{sizeOf, numberBy, capturedBy};
 ghost use Rattle.capture_printed.specs.Printed.{printedIf, captures};
@@ -19,8 +19,8 @@ ghost use Rattle.capture_printed.specs.Printed.{printedIf, captures};
 // The words of an input whose size is right: both refusals come before any body runs.
 fn run_words(words: &[u32], out: &mut [u8]) -> Answer
     requires { ⌜ (length (now words) ≤ 16384) × (largestOutput ≤ length (now out)) ⌝ }
-    ensures { λ r. ⌜ numberBy r ≡ wordsRefusal (now (words .entry)) ⌝ }
-    ensures { λ r. ⌜ (outAt (now (out .exit)) (sizeOf r) ≡ puts (outAt (now (out .entry)) 0) (printedIf (wordsRefusal (now (words .entry))) (now (words .entry)))) × (sizeOf r ≤ length (now (out .exit))) ⌝ }
+    ensures { λ r. ⌜ numberBy r ≡ captureWordsRefusal (now (words .entry)) ⌝ }
+    ensures { λ r. ⌜ (outAt (now (out .exit)) (sizeOf r) ≡ puts (outAt (now (out .entry)) 0) (printedIf (captureWordsRefusal (now (words .entry))) (now (words .entry)))) × (sizeOf r ≤ length (now (out .exit))) ⌝ }
 {
     let outcome = check_words(words);
     match outcome {

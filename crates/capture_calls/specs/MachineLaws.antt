@@ -14,10 +14,10 @@ use Rattle.block_shading.specs.BlockShading.{shaded, eightOf}
 use Rattle.lists.specs.States.{fresh}
 use Rattle.lists.specs.Calls.{Call, run}
 use Rattle.lists.specs.Ours.{ours}
-use Rattle.lists.specs.Plain.{accepts, Machine, zeros, plainStep, plainRun, plain}
+use Rattle.lists.specs.Plain.{accepts, Machine, zeroMachine, plainStep, plainRun, plain}
 use Rattle.lists.specs.Claim.{HandsOver, EndsHandedOver, shadeFrom, Demand3}
 use Rattle.lists.specs.Demand3Laws.{every-list-shades-alike}
-use Rattle.capture_contents.specs.Contents.{Body, countOf, contents, contentsEnd, wordsIn, gapless, shaped}
+use Rattle.capture_contents.specs.Contents.{Body, bodyCount, contents, contentsEnd, wordsIn, gapless, shaped}
 use Rattle.capture_contents.specs.ContentsLaws.{lies-end, gapless-head, gapless-rest, shaped-end, shaped-gapless, contents-count}
 use Rattle.capture_lines.specs.Lines.{noAnswer, blockShades, fragmentLines, bodyLines}
 use Rattle.capture_lines.specs.LinesLaws.{lines-alike, body-fits}
@@ -54,7 +54,7 @@ module _ (done : List Call) (kind : ℕ) (ws : List ℕ) (few : length done + le
 
   machine-after : machineAfter (plain 474 done) kind ws ≡ plain 474 (andThen done kind ws)
   unfolding machineAfter
-  machine-after = sym (plain-append zeros done (bodyCalls kind ws))
+  machine-after = sym (plain-append zeroMachine done (bodyCalls kind ws))
 
   -- a kind 2 body's end in its hand-over
   calls-end : kind ≡ 2 → EndsHandedOver 474 (andThen done kind ws)
@@ -85,10 +85,10 @@ copy-prints w (b ∷ bs) done at end g few =
     (copy-prints w bs (andThen done (b .kind) (wordsIn w b)) (at + b .size) end (gapless-rest b bs at end g) (omega arith)))
 
 -- of a capture's words whose form is right, on a fresh unit and a fresh copy
-pub copy-prints-as-machine : (w : List ℕ) → length w ≤ 16384 → shaped w ≡ true → copyPrints w (contents w) (fresh 474) ≡ machinePrints w (contents w) zeros
+pub copy-prints-as-machine : (w : List ℕ) → length w ≤ 16384 → shaped w ≡ true → copyPrints w (contents w) (fresh 474) ≡ machinePrints w (contents w) zeroMachine
 unfolding run plainRun
 copy-prints-as-machine w n s =
-    copy-prints w (contents w) [] (contentsEnd (countOf w)) (length w) (shaped-gapless w s) (omega (arith, contents-count w, shaped-end w s))
+    copy-prints w (contents w) [] (contentsEnd (bodyCount w)) (length w) (shaped-gapless w s) (omega (arith, contents-count w, shaped-end w s))
 
 -- ---- no more than 32 bytes for each 23 words
 

@@ -7,9 +7,9 @@ use Rattle.sources.specs.Sources.{wordsOf}
 use Rattle.capture_contents.specs.Contents.{contents, sized, shaped, registersRight}
 
 -- of the words of an input whose size is right
-unfoldable pub wordsRefusal : List ℕ → ℕ
-wordsRefusal w = cond (shaped w) (cond (registersRight w (contents w)) 0 3) 8
+unfoldable pub captureWordsRefusal : List ℕ → ℕ
+captureWordsRefusal w = cond (shaped w) (cond (registersRight w (contents w)) 0 3) 8
 
 -- of the input's bytes: 0, 8 or 3
-unfoldable pub refusal : List ℕ → ℕ
-refusal input = cond (sized (length input)) (wordsRefusal (wordsOf input)) 8
+unfoldable pub captureRefusal : List ℕ → ℕ
+captureRefusal input = cond (sized (length input)) (captureWordsRefusal (wordsOf input)) 8

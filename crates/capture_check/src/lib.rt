@@ -6,11 +6,11 @@ use refusals::Outcome;
 use refusals::Refusal;
 ghost use mathlib.Core.Path.{_≡_};
 ghost use Rattle.refusals.specs.Numbers.{outcomeNumber};
-ghost use Rattle.capture_check.specs.Refusal.{wordsRefusal};
+ghost use Rattle.capture_check.specs.Refusal.{captureWordsRefusal};
 
 // Refusals 8 and 3 of the words of an input whose size is right: every rule of form comes before any register.
 pub fn check_words(words: &[u32]) -> Outcome
-    ensures { λ r. ⌜ outcomeNumber r ≡ wordsRefusal (now (words .entry)) ⌝ }
+    ensures { λ r. ⌜ outcomeNumber r ≡ captureWordsRefusal (now (words .entry)) ⌝ }
 {
     if !shaped(words) {
         return Outcome::Refused(Refusal::BadCapture);

@@ -25,11 +25,11 @@ triples w i zero = []
 triples w i (suc k) = triple w i ∷ triples w (suc i) k
 
 -- n
-abbrev pub countOf : List ℕ → ℕ
-countOf w = getD w 0 0
+abbrev pub bodyCount : List ℕ → ℕ
+bodyCount w = getD w 0 0
 
 abbrev pub contents : List ℕ → List Body
-contents w = triples w 0 (countOf w)
+contents w = triples w 0 (bodyCount w)
 
 -- where the contents of n bodies end
 abbrev pub contentsEnd : ℕ → ℕ
@@ -64,9 +64,9 @@ gapless (b ∷ bs) at end = lies b at end && gapless bs (at + b .size) end
 -- "n above 16", "contents .. past the end of the input"
 unfoldable pub shaped : List ℕ → Bool
 shaped w =
-    leb (countOf w) 16
-    && (leb (contentsEnd (countOf w)) (length w)
-    && gapless (contents w) (contentsEnd (countOf w)) (length w))
+    leb (bodyCount w) 16
+    && (leb (contentsEnd (bodyCount w)) (length w)
+    && gapless (contents w) (contentsEnd (bodyCount w)) (length w))
 
 -- ---- refusal 3
 

@@ -9,7 +9,7 @@ use mathlib.Core.Bool.{Bool, true, false, _&&_}
 use borrow.Author.Tests.{eqb-true, leb-true}
 use lib.ListN.{length, getD, take, drop}
 use lib.Dec.{eqb, leb, ltb}
-use Rattle.capture_contents.specs.Contents.{Body, body, triple, triples, countOf, contents, contentsEnd, wordsIn, sized, lies, gapless, shaped}
+use Rattle.capture_contents.specs.Contents.{Body, body, triple, triples, bodyCount, contents, contentsEnd, wordsIn, sized, lies, gapless, shaped}
 
 both-left : (a b : Bool) → (a && b) ≡ true → a ≡ true
 both-left true b e = refl
@@ -40,8 +40,8 @@ unfolding triples
 triples-count w i zero = refl
 triples-count w i (suc k) = ap suc (triples-count w (suc i) k)
 
-pub contents-count : (w : List ℕ) → length (contents w) ≡ countOf w
-contents-count w = triples-count w 0 (countOf w)
+pub contents-count : (w : List ℕ) → length (contents w) ≡ bodyCount w
+contents-count w = triples-count w 0 (bodyCount w)
 
 -- ---- a body that lies where it is due
 
@@ -81,15 +81,15 @@ module _ (w : List ℕ) (i n at end s : ℕ) (h : i < n) (g : gapless (triples w
 
 -- ---- the whole
 
-pub shaped-end : (w : List ℕ) → shaped w ≡ true → contentsEnd (countOf w) ≤ length w
+pub shaped-end : (w : List ℕ) → shaped w ≡ true → contentsEnd (bodyCount w) ≤ length w
 unfolding shaped
 shaped-end w e =
-    leb-true _ _ (both-left (leb (contentsEnd (countOf w)) (length w)) _ (both-right (leb (countOf w) 16) _ e))
+    leb-true _ _ (both-left (leb (contentsEnd (bodyCount w)) (length w)) _ (both-right (leb (bodyCount w) 16) _ e))
 
-pub shaped-gapless : (w : List ℕ) → shaped w ≡ true → gapless (contents w) (contentsEnd (countOf w)) (length w) ≡ true
+pub shaped-gapless : (w : List ℕ) → shaped w ≡ true → gapless (contents w) (contentsEnd (bodyCount w)) (length w) ≡ true
 unfolding shaped
 shaped-gapless w e =
-    both-right (leb (contentsEnd (countOf w)) (length w)) _ (both-right (leb (countOf w) 16) _ e)
+    both-right (leb (contentsEnd (bodyCount w)) (length w)) _ (both-right (leb (bodyCount w) 16) _ e)
 
 pub sized-most : (n : ℕ) → sized n ≡ true → n ≤ 65536
 unfolding sized

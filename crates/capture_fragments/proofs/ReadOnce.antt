@@ -11,7 +11,8 @@ use Rattle.refusals.specs.Lengths.{blockRefusal, tablesRefusal, fragmentRefusal
 use Rattle.tables.specs.RefusalLaws.{else-left, else-right, passed}
 use Rattle.lighting.specs.declared.OptionalLighting.{OptionalLighting}
 use Rattle.block.specs.Formed.{words, allZero, wellFormed}
-use Rattle.block.specs.Reading.{lightingOf, off, on, readingOf}
+use Rattle.lighting.specs.Blank.{off}
+use Rattle.block.specs.Reading.{blockLighting, on, blockReading}
 use Rattle.block.specs.Answers.{inRange, wordsRefusal, Read, read, readRefusal, reads}
 use Rattle.block.specs.Claims.{WordsHeld}
 use Rattle.block.specs.AcceptedLaws.{accepted-range}
@@ -28,7 +29,7 @@ lit-passes : (b : List ℕ) → reads b .reading .on ≡ true → readRefusal b 
 unfolding reads
 lit-passes b e = go (readRefusal b) e
   where
-    go : (k : ℕ) → cond (eqb k 0) (readingOf (words b)) off .on ≡ true → k ≡ 0
+    go : (k : ℕ) → cond (eqb k 0) (blockReading (words b)) off .on ≡ true → k ≡ 0
     go zero h = refl
     go (suc k) h = absurd (false≢true (rw (eqb·suc-zero k) at h))
 
@@ -37,22 +38,22 @@ module _ (b : List ℕ) (r : Read) (e : r ≡ reads b) where
   unfolding reads blockShadingIf shadedBy
   lit-shades h t q a ht hq ha =
       let p : readRefusal b ≡ 0 = lit-passes b (ap (λ (x : Read). x .reading .on) (sym e) ∙ h) in
-      let d : readingOf (words b) ≡ r .reading = sym (ap (λ (x : Read). x .reading) e ∙ rw p refl) in
+      let d : blockReading (words b) ≡ r .reading = sym (ap (λ (x : Read). x .reading) e ∙ rw p refl) in
       by-reading b t q a ht hq ha ∙ rw (p, d, h) refl
 
   -- what it shades is in range
   pub lit-range : r .reading .on ≡ true → WordsHeld (words b) → inRange (r .reading .lighting) ≡ true
-  unfolding reads readRefusal blockRefusal wordsRefusal readingOf
+  unfolding reads readRefusal blockRefusal wordsRefusal blockReading
   lit-range h held =
       let p : readRefusal b ≡ 0 = lit-passes b (ap (λ (x : Read). x .reading .on) (sym e) ∙ h) in
-      let d : r .reading ≡ readingOf (words b) = ap (λ (x : Read). x .reading) e ∙ rw p refl in
+      let d : r .reading ≡ blockReading (words b) = ap (λ (x : Read). x .reading) e ∙ rw p refl in
       let long : length b ≡ 328 = eqb-true (length b) 328 (passed (eqb (length b) 328) 5 (else-left (blockRefusal (length b)) (wordsRefusal (words b)) p)) in
       let right : (allZero (words b) || wellFormed (words b)) ≡ true = passed (allZero (words b) || wellFormed (words b)) 6 (else-right (blockRefusal (length b)) (wordsRefusal (words b)) p) in
       subst (λ (x : OptionalLighting). inRange (x .lighting) ≡ true) (sym d) (go long (allZero (words b)) (ap (λ (x : OptionalLighting). x .on) (sym d) ∙ h) right)
     where
-      go : length b ≡ 328 → (z : Bool) → cond z off (on (lightingOf (words b))) .on ≡ true → (z || wellFormed (words b)) ≡ true → inRange (cond z off (on (lightingOf (words b))) .lighting) ≡ true
+      go : length b ≡ 328 → (z : Bool) → cond z off (on (blockLighting (words b))) .on ≡ true → (z || wellFormed (words b)) ≡ true → inRange (cond z off (on (blockLighting (words b))) .lighting) ≡ true
       go long true l f = absurd (false≢true l)
-      go long false l f = accepted-range (lightingOf (words b)) (read-accepted b long held f)
+      go long false l f = accepted-range (blockLighting (words b)) (read-accepted b long held f)
 
   -- a block that does not, and one that is refused, shade no fragment
   pub unlit-shades : r .reading .on ≡ false → (t q a : List ℕ) → length t ≡ 12288 → length q ≡ 23 → length a ≡ 8 → blockShading b t q a ≡ shaded (cond (eqb (r .number) 0) 100 (r .number)) a
@@ -64,6 +65,6 @@ module _ (b : List ℕ) (r : Read) (e : r ≡ reads b) where
 
       go : (k : ℕ) → readRefusal b ≡ k → blockShadingIf k b t q a ≡ shaded (cond (eqb (r .number) 0) 100 (r .number)) a
       go zero p =
-          let d : readingOf (words b) ≡ r .reading = sym (ap (λ (x : Read). x .reading) e ∙ rw p refl) in
+          let d : blockReading (words b) ≡ r .reading = sym (ap (λ (x : Read). x .reading) e ∙ rw p refl) in
           rw (number-is, p, d, h) refl
       go (suc k) p = rw (number-is, p, eqb·suc-zero k) refl

@@ -7,15 +7,15 @@ use lib.ListN.{length, replicate}
 use Rattle.unit.specs.declared.Cache.{Cache}
 use Rattle.unit.specs.Fresh.{freshCache}
 use Rattle.lists.specs.States.{fresh}
-use Rattle.lists.specs.Plain.{zeros}
-use Rattle.capture_contents.specs.Contents.{countOf, triples, contents}
-use Rattle.capture_check.specs.Refusal.{wordsRefusal}
+use Rattle.lists.specs.Plain.{zeroMachine}
+use Rattle.capture_contents.specs.Contents.{bodyCount, triples, contents}
+use Rattle.capture_check.specs.Refusal.{captureWordsRefusal}
 use Rattle.capture_calls.specs.Run.{copyPrints}
 use Rattle.capture_calls.specs.Machine.{machinePrints}
 use Rattle.capture_calls.specs.MachineLaws.{copy-prints-as-machine}
 use Rattle.capture_body.specs.Body.{lentState}
 use Rattle.capture_printed.specs.RefusalLaws.{not-refused-shaped}
 
-pub fresh-prints : (w : List ℕ) (n : ℕ) (c : Cache) → length w ≤ 16384 → wordsRefusal w ≡ 0 → n ≡ countOf w → c ≡ freshCache → copyPrints w (triples w 0 n) (lentState (replicate 474 0) (replicate 12288 0) (replicate 328 0) (replicate 12288 0) (record { generation = 0; cache = c; age = 0 })) ≡ machinePrints w (contents w) zeros
+pub fresh-prints : (w : List ℕ) (n : ℕ) (c : Cache) → length w ≤ 16384 → captureWordsRefusal w ≡ 0 → n ≡ bodyCount w → c ≡ freshCache → copyPrints w (triples w 0 n) (lentState (replicate 474 0) (replicate 12288 0) (replicate 328 0) (replicate 12288 0) (record { generation = 0; cache = c; age = 0 })) ≡ machinePrints w (contents w) zeroMachine
 unfolding fresh
 fresh-prints w n c few e p q = rw (p, q) (copy-prints-as-machine w few (not-refused-shaped w e))

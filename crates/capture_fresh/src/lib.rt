@@ -5,16 +5,16 @@ use capture_run::run_bodies;
 ghost use mathlib.Core.Path.{_≡_};
 ghost use Prim.Native.Nat.{_≤_};
 ghost use lib.ListN.{length};
-ghost use Rattle.lists.specs.Plain.{zeros};
+ghost use Rattle.lists.specs.Plain.{zeroMachine};
 ghost use Rattle.writing.specs.Writing.{out as outAt, puts};
 ghost use Rattle.capture_contents.specs.Contents.{contents};
-ghost use Rattle.capture_check.specs.Refusal.{wordsRefusal};
+ghost use Rattle.capture_check.specs.Refusal.{captureWordsRefusal};
 ghost use Rattle.capture_calls.specs.Machine.{machinePrints, largestOutput};
 
 // A capture whose words were checked, on a fresh unit and a fresh copy; how many bytes it printed.
 pub fn run_fresh(words: &[u32], out: &mut [u8]) -> usize
-    requires { ⌜ (length (now words) ≤ 16384) × (wordsRefusal (now words) ≡ 0) × (largestOutput ≤ length (now out)) ⌝ }
-    ensures { λ r. ⌜ (outAt (now (out .exit)) r ≡ puts (outAt (now (out .entry)) 0) (machinePrints (now (words .entry)) (contents (now (words .entry))) zeros)) × (r ≤ length (now (out .exit))) ⌝ }
+    requires { ⌜ (length (now words) ≤ 16384) × (captureWordsRefusal (now words) ≡ 0) × (largestOutput ≤ length (now out)) ⌝ }
+    ensures { λ r. ⌜ (outAt (now (out .exit)) r ≡ puts (outAt (now (out .entry)) 0) (machinePrints (now (words .entry)) (contents (now (words .entry))) zeroMachine)) × (r ≤ length (now (out .exit))) ⌝ }
 {
     let count = wide(words[0]);
     let mut file = [0u32; 474];

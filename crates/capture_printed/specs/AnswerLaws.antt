@@ -8,14 +8,14 @@ use borrow.Author.Tests.{le-leb}
 use lib.ListN.{length}
 use Rattle.sources.specs.Sources.{wordsOf}
 use Rattle.capture_contents.specs.Contents.{contents, sized, shaped, registersRight}
-use Rattle.capture_check.specs.Refusal.{wordsRefusal, refusal}
+use Rattle.capture_check.specs.Refusal.{captureWordsRefusal, captureRefusal}
 use Rattle.capture_calls.specs.Machine.{largestOutput}
 use Rattle.capture_answers.specs.declared.Answer.{Answer}
 use Rattle.capture_answers.specs.Answers.{shortOutput, numberBy, Captured, capturedBy}
 use Rattle.capture_printed.specs.Printed.{captures}
 
-refusal-other : (input : List ℕ) → refusal input ≡ shortOutput → ⊥
-unfolding refusal wordsRefusal
+refusal-other : (input : List ℕ) → captureRefusal input ≡ shortOutput → ⊥
+unfolding captureRefusal captureWordsRefusal
 refusal-other input = go (sized (length input)) (shaped (wordsOf input)) (registersRight (wordsOf input) (contents (wordsOf input)))
   where
     go : (a b c : Bool) → _≡_ {A = ℕ} (cond a (cond b (cond c 0 3) 8) 8) shortOutput → ⊥
@@ -27,5 +27,5 @@ refusal-other input = go (sized (length input)) (shaped (wordsOf input)) (regist
 pub output-suffices : (input o o′ : List ℕ) (a : Answer) → largestOutput ≤ length o → capturedBy a o′ ≡ captures input o → numberBy a ≡ shortOutput → ⊥
 unfolding captures
 output-suffices input o o′ a h e n =
-    let number : numberBy a ≡ refusal input = ap (λ (r : Captured). r .number) (rw (le-leb largestOutput (length o) h) at e) in
+    let number : numberBy a ≡ captureRefusal input = ap (λ (r : Captured). r .number) (rw (le-leb largestOutput (length o) h) at e) in
     refusal-other input (sym number ∙ n)

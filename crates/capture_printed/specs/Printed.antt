@@ -6,25 +6,25 @@ use mathlib.Core.Bool.{cond}
 use lib.ListN.{length, drop}
 use lib.Dec.{leb}
 use Rattle.sources.specs.Sources.{wordsOf}
-use Rattle.lists.specs.Plain.{zeros}
+use Rattle.lists.specs.Plain.{zeroMachine}
 use Rattle.printing.specs.Text.{refusedLine}
 use Rattle.capture_contents.specs.Contents.{contents}
-use Rattle.capture_check.specs.Refusal.{refusal}
+use Rattle.capture_check.specs.Refusal.{captureRefusal}
 use Rattle.capture_calls.specs.Machine.{machinePrints, largestOutput}
 use Rattle.capture_answers.specs.Answers.{shortOutput, Captured, captured}
 
 -- "on a fresh unit and a fresh copy"; "A bad capture prints only `refused N`."
 unfoldable pub printedIf : ℕ → List ℕ → List ℕ
-printedIf zero w = machinePrints w (contents w) zeros
+printedIf zero w = machinePrints w (contents w) zeroMachine
 printedIf (suc k) w = refusedLine (suc k)
 
--- THE definition: what is printed of the input's bytes
+-- the definition: what is printed of the input's bytes
 unfoldable pub printed : List ℕ → List ℕ
-printed input = printedIf (refusal input) (wordsOf input)
+printed input = printedIf (captureRefusal input) (wordsOf input)
 
 -- input, output: the capture's number, 0, 8 or 3, and what it prints at the output's start; a short output is left as it is
 unfoldable pub captures : List ℕ → List ℕ → Captured
 captures input o =
     cond (leb largestOutput (length o))
-    (captured (refusal input) (length (printed input)) (printed input ++ drop (length (printed input)) o))
+    (captured (captureRefusal input) (length (printed input)) (printed input ++ drop (length (printed input)) o))
     (captured shortOutput 0 o)

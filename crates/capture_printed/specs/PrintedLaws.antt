@@ -8,12 +8,12 @@ use mathlib.Core.Bool.{Bool, true, false, cond}
 use lib.ListN.{length}
 use Rattle.sources.specs.Sources.{wordsOf}
 use Rattle.sources.specs.SourcesLaws.{length-words}
-use Rattle.lists.specs.Plain.{zeros}
+use Rattle.lists.specs.Plain.{zeroMachine}
 use Rattle.printing.specs.Text.{refusedLine}
 use Rattle.printing.specs.TextLaws.{refused-most}
-use Rattle.capture_contents.specs.Contents.{countOf, contents, contentsEnd, sized, shaped}
+use Rattle.capture_contents.specs.Contents.{bodyCount, contents, contentsEnd, sized, shaped}
 use Rattle.capture_contents.specs.ContentsLaws.{shaped-gapless, sized-most}
-use Rattle.capture_check.specs.Refusal.{wordsRefusal, refusal}
+use Rattle.capture_check.specs.Refusal.{captureWordsRefusal, captureRefusal}
 use Rattle.capture_calls.specs.Machine.{largestOutput}
 use Rattle.capture_calls.specs.MachineLaws.{machine-fits}
 use Rattle.capture_printed.specs.RefusalLaws.{not-refused-shaped}
@@ -25,15 +25,15 @@ unfolding printedIf
 printed-refused k w = refl
 
 pub printed-fits : (input : List ℕ) → length (printed input) ≤ largestOutput
-unfolding printed printedIf refusal
+unfolding printed printedIf captureRefusal
 printed-fits input = go (sized (length input)) refl
   where
-    fits : sized (length input) ≡ true → (k : ℕ) → wordsRefusal (wordsOf input) ≡ k → length (printedIf k (wordsOf input)) ≤ largestOutput
+    fits : sized (length input) ≡ true → (k : ℕ) → captureWordsRefusal (wordsOf input) ≡ k → length (printedIf k (wordsOf input)) ≤ largestOutput
     fits e zero h =
         let s : shaped (wordsOf input) ≡ true = not-refused-shaped (wordsOf input) h in
-        omega (arith, machine-fits (wordsOf input) (contents (wordsOf input)) zeros (contentsEnd (countOf (wordsOf input))) (length (wordsOf input)) (shaped-gapless (wordsOf input) s), length-words input, sized-most (length input) e)
+        omega (arith, machine-fits (wordsOf input) (contents (wordsOf input)) zeroMachine (contentsEnd (bodyCount (wordsOf input))) (length (wordsOf input)) (shaped-gapless (wordsOf input) s), length-words input, sized-most (length input) e)
     fits e (suc k) h = omega (arith, refused-most (suc k))
 
-    go : (b : Bool) → sized (length input) ≡ b → length (printedIf (cond b (wordsRefusal (wordsOf input)) 8) (wordsOf input)) ≤ largestOutput
-    go true e = fits e (wordsRefusal (wordsOf input)) refl
+    go : (b : Bool) → sized (length input) ≡ b → length (printedIf (cond b (captureWordsRefusal (wordsOf input)) 8) (wordsOf input)) ≤ largestOutput
+    go true e = fits e (captureWordsRefusal (wordsOf input)) refl
     go false e = omega (arith, refused-most 8)

@@ -5,10 +5,10 @@ use mathlib.Core.Path.{_≡_, refl}
 use mathlib.Core.List.{List}
 use mathlib.Core.Bool.{Bool, true, false, cond}
 use Rattle.capture_contents.specs.Contents.{contents, shaped, registersRight}
-use Rattle.capture_check.specs.Refusal.{wordsRefusal}
+use Rattle.capture_check.specs.Refusal.{captureWordsRefusal}
 
-pub not-refused-shaped : (w : List ℕ) → wordsRefusal w ≡ 0 → shaped w ≡ true
-unfolding wordsRefusal
+pub not-refused-shaped : (w : List ℕ) → captureWordsRefusal w ≡ 0 → shaped w ≡ true
+unfolding captureWordsRefusal
 not-refused-shaped w e = go (shaped w) e
   where
     go : (b : Bool) → _≡_ {A = ℕ} (cond b (cond (registersRight w (contents w)) 0 3) 8) 0 → b ≡ true

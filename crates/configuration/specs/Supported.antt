@@ -23,8 +23,12 @@ tableReflectGreen = 5
 abbrev pub tableReflectRed : ℕ
 tableReflectRed = 6
 
+-- eight for the spotlights and eight for the distances, by the light's number
 abbrev pub tableSpotlight : ℕ
 tableSpotlight = 8
+
+abbrev pub tableDistance : ℕ
+tableDistance = 16
 
 -- bits 4 to 7 of 1C3
 unfoldable pub configOf : List ℕ → ℕ

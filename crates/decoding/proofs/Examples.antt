@@ -11,21 +11,21 @@ use Rattle.fields.specs.Fixed.{signed13, fixedOf}
 use Rattle.fields.specs.ShortFloat.{shortExponent, shortSign, shortWord, shortFloat}
 use Rattle.root.specs.Root.{rootOf}
 use Rattle.vectors.specs.Vectors.{overOf, dotOf, normalizedOf}
-use Rattle.lighting.specs.Blank.{zeroFloat, zeroVector, blankLight}
+use Rattle.lighting.specs.Blank.{zeroFloat, zeroVector, blankLight, off}
 use Rattle.lighting.specs.declared.OptionalLookup.the-variants.{Missing}
 use Rattle.lighting.specs.declared.Distance.the-variants.{Without}
 use Rattle.lighting.specs.declared.Bump.the-variants.{Flat}
 use Rattle.lighting.specs.declared.OptionalShadow.the-variants.{Unshadowed}
 use Rattle.configuration.specs.Supported.{configOf, supportedBy}
-use Rattle.slots.specs.Slots.{countOf, numberOf}
+use Rattle.slots.specs.Slots.{countOf, lightNumberOf}
 use Rattle.light_fields.specs.LightFields.{lightRegister, lightColour, positionOf, spotOf}
 use Rattle.lights.specs.Lights.{distanceOf, spotlitOf, lightOf, slotLight, lightsOf}
 use Rattle.refusals.specs.Lengths.{fileRefusal}
-use Rattle.lookups.specs.Tables.{scales, scaleOf, lookupOf, tableOf, lookupsOf}
+use Rattle.lookups.specs.Tables.{scales, scaleOf, lookupOf, lookupIf, lookupsOf}
 use Rattle.settings.specs.Settings.{bumpOf, shadowOf}
 use Rattle.needs.specs.Needs.{litLights, inputHalf, inputView, lookupHalf, lookupView, halfInput, viewInput, needsHalf, needsView}
 use Rattle.register_lighting.specs.Lighting.{lightingOf}
-use Rattle.decoding.specs.Decode.{lightingOn, off, decoded, readIf, readOf}
+use Rattle.decoding.specs.Decode.{lightingOn, decoded, readIf, readOf}
 
 abbrev fresh : List ℕ
 fresh = replicate 474 0
@@ -79,7 +79,7 @@ whole-decoded : decoded whole ≡ record {
     shadow = Unshadowed;
   };
 }
-unfolding decoded lightingOn lightingOf lightsOf slotLight lightOf countOf numberOf lightRegister lightColour positionOf spotOf distanceOf spotlitOf configOf supportedBy lookupsOf tableOf lookupOf scaleOf bumpOf shadowOf needsHalf needsView litLights halfInput viewInput lookupHalf lookupView inputHalf inputView blankLight colourOf colourField colourChannel fixedOf signed13 shortFloat shortWord shortSign shortExponent normalizedOf overOf dotOf rootOf ofBits ofInt add mul div
+unfolding decoded lightingOn lightingOf lightsOf slotLight lightOf countOf lightNumberOf lightRegister lightColour positionOf spotOf distanceOf spotlitOf configOf supportedBy lookupsOf lookupIf lookupOf scaleOf bumpOf shadowOf needsHalf needsView litLights halfInput viewInput lookupHalf lookupView inputHalf inputView blankLight colourOf colourField colourChannel fixedOf signed13 shortFloat shortWord shortSign shortExponent normalizedOf overOf dotOf rootOf ofBits ofInt add mul div
 whole-decoded = refl
 
 -- ---- the scale codes: 1, 2, 4, 8, 0, 0, 1/4, 1/2

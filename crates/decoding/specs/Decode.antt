@@ -5,7 +5,7 @@ use mathlib.Core.List.{List}
 use lib.ListN.{length}
 use Rattle.refusals.specs.Numbers.{outcomeNumber}
 use Rattle.refusals.specs.Lengths.{fileRefusal}
-use Rattle.lighting.specs.Blank.{blankLighting}
+use Rattle.lighting.specs.Blank.{off}
 use Rattle.lighting.specs.declared.OptionalLighting.{OptionalLighting}
 use Rattle.registers.specs.Registers.{regEnable, regDisable, registerOf, flagOf}
 use Rattle.register_lighting.specs.Lighting.{lightingOf}
@@ -14,10 +14,6 @@ use Rattle.decoding.specs.declared.LightingRead.{LightingRead}
 -- off when bit 0 of 8F is clear or bit 0 of 1C6 is set
 unfoldable pub lightingOn : List ℕ → Bool
 lightingOn f = flagOf (registerOf f regEnable) 0 && not (flagOf (registerOf f regDisable) 0)
-
--- off: the lighting beside the flag is the blank one
-unfoldable pub off : OptionalLighting
-off = record { on = false; lighting = blankLighting }
 
 unfoldable pub decoded : List ℕ → OptionalLighting
 decoded f = cond (lightingOn f) (record { on = true; lighting = lightingOf f }) off

@@ -5,7 +5,7 @@ use mathlib.Core.List.{List}
 use native.Mathlib.Omega.{arith}
 use Rattle.lights.specs.Claims.{SameLights}
 use Rattle.lights.specs.SameLaws.{count-same, config-same, lights-same}
-use Rattle.lookups.specs.Tables.{lookupOf, tableOf, lookupsOf}
+use Rattle.lookups.specs.Tables.{lookupOf, lookupIf, lookupsOf}
 use Rattle.needs.specs.Needs.{litLights, needsHalf, needsView}
 use Rattle.register_lighting.specs.Lighting.{lightingOf}
 use Rattle.decoding.specs.Decode.{lightingOn, decoded}
@@ -18,7 +18,7 @@ module _ (f g : List ℕ) (s : SameKept f g) where
   same = record { blocks = s .blocks; slots = s .slots }
 
   lookups-same : lookupsOf f ≡ lookupsOf g
-  unfolding lookupsOf tableOf lookupOf
+  unfolding lookupsOf lookupIf lookupOf
   lookups-same =
       simp (config-same f g same, s .blocks 132 (omega arith), s .tables 0 (omega arith), s .tables 1 (omega arith), s .tables 2 (omega arith))
 

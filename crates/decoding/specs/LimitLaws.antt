@@ -17,7 +17,7 @@ use Rattle.registers.specs.Registers.{regConfig1, regTableScale, registerOf, bi
 use Rattle.configuration.specs.Supported.{configOf, supportedBy}
 use Rattle.lights.specs.Lights.{lightsOf, slotLight}
 use Rattle.lights.specs.LightLaws.{count-low, count-high, config-lt, lights-length, light-at, blank-beyond, slot-number-lt, slot-fits, colour-vector}
-use Rattle.lookups.specs.Tables.{scaleOf, lookupOf, tableOf, lookupsOf}
+use Rattle.lookups.specs.Tables.{scaleOf, lookupOf, lookupIf, lookupsOf}
 use Rattle.settings.specs.Settings.{bumpOf, shadowOf}
 use Rattle.needs.specs.Needs.{needsHalf, needsView}
 use Rattle.register_lighting.specs.Lighting.{lightingOf}
@@ -64,8 +64,8 @@ lookup-limits f field =
       scale = record { code = bitsOf (registerOf f regTableScale) (field * 4) 3; small = omega arith; is = refl };
     }
 
-pub table-limits : (f : List ℕ) (table disabled field : ℕ) → OptionalLookupLimits (tableOf f table disabled field)
-unfolding tableOf
+pub table-limits : (f : List ℕ) (table disabled field : ℕ) → OptionalLookupLimits (lookupIf f table disabled field)
+unfolding lookupIf
 table-limits f table disabled field = go (not (flagOf (registerOf f regConfig1) disabled) && supportedBy (configOf f) table)
   where
     go : (b : Bool) → OptionalLookupLimits (cond b (Present (lookupOf f field)) Missing)

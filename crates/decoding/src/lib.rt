@@ -7,7 +7,8 @@ use register_lighting::lighting;
 use registers::flag;
 use registers::register;
 ghost use mathlib.Core.Path.{_≡_};
-ghost use Rattle.decoding.specs.Decode.{off as offOf, decoded, answerOf, readOf};
+ghost use Rattle.lighting.specs.Blank.{off as offOf};
+ghost use Rattle.decoding.specs.Decode.{decoded, answerOf, readOf};
 
 const REG_ENABLE: usize = 0x08F;
 

@@ -8,7 +8,7 @@ use Rattle.lighting.specs.declared.Shadow.{Shadow}
 use Rattle.lighting.specs.declared.OptionalShadow.{OptionalShadow}
 use Rattle.lighting.specs.declared.OptionalShadow.the-variants.{Unshadowed, Shadowed}
 use Rattle.lighting.specs.declared.Light.{Light}
-use Rattle.block.specs.Words.{flagOf, bumpWord, shadowWord, isScaled, flagsWord}
+use Rattle.block.specs.Words.{flagWord, bumpWord, shadowWord, isScaled, flagsWord}
 use Rattle.block.specs.Answers.{bumpUnit, shadowUnit}
 
 pub normal-unit : (b : Bump) (u : ℕ) (r : Bool) → b ≡ Normal u r → bumpUnit b ≤ 3 → u ≤ 3
@@ -23,7 +23,7 @@ pub flat-word : 0 ≡ bumpWord Flat
 unfolding bumpWord
 flat-word = refl
 
-pub normal-word : (u : ℕ) (r : Bool) (x f : ℕ) → x ≡ 16 * u → f ≡ flagOf r 256 → 1 + x + f ≡ bumpWord (Normal u r)
+pub normal-word : (u : ℕ) (r : Bool) (x f : ℕ) → x ≡ 16 * u → f ≡ flagWord r 256 → 1 + x + f ≡ bumpWord (Normal u r)
 unfolding bumpWord
 normal-word u r x f p q = rw (p, q) refl
 
@@ -39,19 +39,19 @@ pub unshadowed-word : 0 ≡ shadowWord Unshadowed
 unfolding shadowWord
 unshadowed-word = refl
 
-pub shadowed-word : (s : Shadow) (x a b c d : ℕ) → x ≡ 16 * s .unit → a ≡ flagOf (s .invert) 256 → b ≡ flagOf (s .primary) 512 → c ≡ flagOf (s .secondary) 1024 → d ≡ flagOf (s .alpha) 2048
+pub shadowed-word : (s : Shadow) (x a b c d : ℕ) → x ≡ 16 * s .unit → a ≡ flagWord (s .invert) 256 → b ≡ flagWord (s .primary) 512 → c ≡ flagWord (s .secondary) 1024 → d ≡ flagWord (s .alpha) 2048
     → 1 + x + a + b + c + d ≡ shadowWord (Shadowed s)
 unfolding shadowWord
 shadowed-word s x a b c d p q r t u = rw (p, q, r, t, u) refl
 
 pub flags-made : (l : Light) (s : Bool) (a b c d e f g : ℕ) → s ≡ isScaled (l .distance)
-    → a ≡ flagOf (l .directional) 1
-    → b ≡ flagOf (l .«two_sided») 2
-    → c ≡ flagOf (l .geometric0) 4
-    → d ≡ flagOf (l .geometric1) 8
-    → e ≡ flagOf s 16
-    → f ≡ flagOf (l .spotlight) 32
-    → g ≡ flagOf (l .shadowed) 64
+    → a ≡ flagWord (l .directional) 1
+    → b ≡ flagWord (l .«two_sided») 2
+    → c ≡ flagWord (l .geometric0) 4
+    → d ≡ flagWord (l .geometric1) 8
+    → e ≡ flagWord s 16
+    → f ≡ flagWord (l .spotlight) 32
+    → g ≡ flagWord (l .shadowed) 64
     → a + b + c + d + e + f + g ≡ flagsWord l
 unfolding flagsWord
 flags-made l s a b c d e f g es ea eb ec ed ee ef eg = rw (ea, eb, ec, ed, ee, ef, eg, es) refl

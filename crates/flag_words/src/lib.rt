@@ -5,12 +5,12 @@ use lighting::Light;
 use lighting::OptionalShadow;
 ghost use mathlib.Core.Path.{_≡_};
 ghost use Prim.Native.Nat.{_*_, _≤_};
-ghost use Rattle.block.specs.Words.{flagOf, bumpWord, shadowWord, isScaled, flagsWord};
+ghost use Rattle.block.specs.Words.{flagWord, bumpWord, shadowWord, isScaled, flagsWord};
 ghost use Rattle.block.specs.Answers.{bumpUnit, shadowUnit};
 
 // `weight` where the flag is set.
 pub fn flag(set: bool, weight: u32) -> u32
-    ensures { λ r. ⌜ (r ≡ flagOf set weight) × (r ≤ weight) ⌝ }
+    ensures { λ r. ⌜ (r ≡ flagWord set weight) × (r ≤ weight) ⌝ }
 {
     if set { weight } else { 0 }
 }

@@ -12,13 +12,13 @@ ghost use mathlib.Core.Bool.{true};
 ghost use lib.ListN.{length};
 ghost use Rattle.block.specs.Words.{headWords};
 ghost use Rattle.block.specs.Answers.{inRange};
-ghost use Rattle.block_rows.specs.Put.{put};
+ghost use Rattle.block_rows.specs.Put.{putWords};
 ghost use Rattle.head_words.specs.Parts.{lookupsWords};
 
 // The seven lookups.
 fn put_lookups(block: &mut [u32], l: Lighting)
     requires { ⌜ length (now block) ≡ 328 ⌝ }
-    ensures { λ _. ⌜ now (block .exit) ≡ put (now (block .entry)) 8 (lookupsWords l) ⌝ }
+    ensures { λ _. ⌜ now (block .exit) ≡ putWords (now (block .entry)) 8 (lookupsWords l) ⌝ }
 {
     let distribution0 = l.distribution0;
     let distribution1 = l.distribution1;
@@ -39,7 +39,7 @@ fn put_lookups(block: &mut [u32], l: Lighting)
 // The block's first 40 words.
 pub fn put_head(block: &mut [u32], l: Lighting)
     requires { ⌜ (length (now block) ≡ 328) × (inRange l ≡ true) ⌝ }
-    ensures { λ _. ⌜ now (block .exit) ≡ put (now (block .entry)) 0 (headWords l) ⌝ }
+    ensures { λ _. ⌜ now (block .exit) ≡ putWords (now (block .entry)) 0 (headWords l) ⌝ }
 {
     let bump = l.bump;
     let shadow = l.shadow;

@@ -8,13 +8,13 @@ ghost use mathlib.Core.Path.{_≡_};
 ghost use mathlib.Core.List.{[], _∷_};
 ghost use Prim.Native.Nat.{_+_, _≤_};
 ghost use lib.ListN.{length};
-ghost use Rattle.block_rows.specs.Put.{put};
+ghost use Rattle.block_rows.specs.Put.{putWords};
 ghost use Rattle.light_words.specs.Parts.{coloursWords, placesWords};
 ghost use Rattle.block.specs.Words.{biasWord, distanceScaleWord, lightWords};
 
 fn put_colours(block: &mut [u32], at: usize, l: Light)
     requires { ⌜ at + 16 ≤ length (now block) ⌝ }
-    ensures { λ _. ⌜ now (block .exit) ≡ put (now (block .entry)) at (coloursWords l) ⌝ }
+    ensures { λ _. ⌜ now (block .exit) ≡ putWords (now (block .entry)) at (coloursWords l) ⌝ }
 {
     let specular0 = l.specular0;
     let specular1 = l.specular1;
@@ -28,7 +28,7 @@ fn put_colours(block: &mut [u32], at: usize, l: Light)
 
 fn put_places(block: &mut [u32], at: usize, l: Light)
     requires { ⌜ at + 12 ≤ length (now block) ⌝ }
-    ensures { λ _. ⌜ now (block .exit) ≡ put (now (block .entry)) at (placesWords l) ⌝ }
+    ensures { λ _. ⌜ now (block .exit) ≡ putWords (now (block .entry)) at (placesWords l) ⌝ }
 {
     let position = l.position;
     let direction = l.direction;
@@ -41,7 +41,7 @@ fn put_places(block: &mut [u32], at: usize, l: Light)
 // Bias, scale and padding.
 fn put_distance(block: &mut [u32], at: usize, distance: Distance)
     requires { ⌜ at + 4 ≤ length (now block) ⌝ }
-    ensures { λ _. ⌜ now (block .exit) ≡ put (now (block .entry)) at (biasWord distance ∷ distanceScaleWord distance ∷ 0 ∷ 0 ∷ []) ⌝ }
+    ensures { λ _. ⌜ now (block .exit) ≡ putWords (now (block .entry)) at (biasWord distance ∷ distanceScaleWord distance ∷ 0 ∷ 0 ∷ []) ⌝ }
 {
     match distance {
         Distance::Without => put_row(block, at, 0, 0, 0, 0),
@@ -59,7 +59,7 @@ fn put_distance(block: &mut [u32], at: usize, distance: Distance)
 // A light's 36 words.
 pub fn put_light(block: &mut [u32], at: usize, l: Light)
     requires { ⌜ (at + 36 ≤ length (now block)) × (l .number .0 ≤ 7) ⌝ }
-    ensures { λ _. ⌜ now (block .exit) ≡ put (now (block .entry)) at (lightWords l) ⌝ }
+    ensures { λ _. ⌜ now (block .exit) ≡ putWords (now (block .entry)) at (lightWords l) ⌝ }
 {
     let distance = l.distance;
     let number = l.number;

@@ -1,10 +1,11 @@
--- The blank light and the blank lighting: every number zero, every flag clear, every optional part missing. Definitions only.
+-- The blank light and the blank lighting: every number zero, every flag clear, every optional part missing; and off. Definitions only.
 use mathlib.Core.List.{List, [], _∷_}
 use mathlib.Core.Bool.{false}
 use lib.ListN.{replicate}
 use lib.Ieee.{Float, binary32, ofBits}
 use Rattle.lighting.specs.declared.Light.{Light}
 use Rattle.lighting.specs.declared.Lighting.{Lighting}
+use Rattle.lighting.specs.declared.OptionalLighting.{OptionalLighting}
 use Rattle.lighting.specs.declared.OptionalLookup.the-variants.{Missing}
 use Rattle.lighting.specs.declared.Distance.the-variants.{Without}
 use Rattle.lighting.specs.declared.Bump.the-variants.{Flat}
@@ -58,3 +59,7 @@ blankLighting =
       bump = Flat;
       shadow = Unshadowed;
     }
+
+-- off: the lighting beside the flag is the blank one
+abbrev pub off : OptionalLighting
+off = record { on = false; lighting = blankLighting }

@@ -15,7 +15,7 @@ use Rattle.block_shading.specs.BlockShading.{Shaded, shaded, eightOf, blockShad
 use Rattle.block_shading.specs.Answers.{isOff}
 use Rattle.block_shading.specs.AnswersLaws.{wrong-block, wrong-tables, wrong-fragment, wrong-answer, lit-answer, off-answer, bad-answer}
 use Rattle.block.specs.Formed.{words}
-use Rattle.block.specs.Reading.{lightingOf}
+use Rattle.block.specs.Reading.{blockLighting}
 use Rattle.block.specs.Answers.{blockForm}
 use Rattle.block_reading.specs.Answer.{isLit}
 use Rattle.lighting_abi.specs.Bytes.{wholeWords, answerBytes, shadeBytes}
@@ -85,7 +85,7 @@ module _ (block tables fragment answer : List ℕ) where
           gf = given-whole fragment 23 (omega arith) f
 
           pub lit-bytes : isLit (blockForm (given [] block)) ≡ true
-              → shaded 0 (bytesOf (eightOf (lightingOf (words (given [] block))) (given [] tables) (given [] fragment))) ≡ shadeBytes block tables fragment answer
+              → shaded 0 (bytesOf (eightOf (blockLighting (words (given [] block))) (given [] tables) (given [] fragment))) ≡ shadeBytes block tables fragment answer
           unfolding shadeBytes answerBytes
           lit-bytes h =
               ap (λ (s : Shaded). answerBytes s answer)

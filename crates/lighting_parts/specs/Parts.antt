@@ -7,7 +7,7 @@ use lib.Ieee.{Float}
 use Rattle.lighting.specs.declared.Lighting.{Lighting}
 use Rattle.block.specs.Answers.{bumpUnit, shadowUnit}
 use Rattle.shade_types.specs.declared.Frame.{Frame}
-use Rattle.shade_shadow.specs.Shadow.{shadowOf, primaryOf, secondaryOf, alphaOf}
+use Rattle.shade_shadow.specs.Shadow.{shadowTexel, primaryOf, secondaryOf, alphaOf}
 use Rattle.shade_surface.specs.Surface.{frameOf}
 use Rattle.shade_types.specs.declared.Lookups.{Lookups}
 use Rattle.shade_values.specs.Values.{present}
@@ -15,8 +15,8 @@ use Rattle.shade_types.specs.declared.Settings.{Settings}
 use Rattle.shade_types.specs.declared.Sums.{Sums}
 use Rattle.shade_channels.specs.Channels.{finishOf}
 
-unfoldable pub lookupsOf : Lighting → Lookups
-lookupsOf l =
+unfoldable pub lightingLookups : Lighting → Lookups
+lightingLookups l =
     record {
       config = l .config;
       «needs_half» = l .«needs_half»;
@@ -29,8 +29,8 @@ lookupsOf l =
       spotlight = l .spotlight;
     }
 
-unfoldable pub settingsOf : Lighting → List Float → Settings
-settingsOf l shadow =
+unfoldable pub lightingSettings : Lighting → List Float → Settings
+lightingSettings l shadow =
     record {
       «clamp_highlights» = l .«clamp_highlights»;
       «shadow_primary» = primaryOf (l .shadow);
@@ -48,7 +48,7 @@ lightingFrame l quaternion view texels =
     frameOf (l .bump) (texelOf texels (bumpUnit (l .bump))) (l .config) (l .«needs_view») quaternion view
 
 unfoldable pub lightingShadow : Lighting → List (List Float) → List Float
-lightingShadow l texels = shadowOf (l .shadow) (texelOf texels (shadowUnit (l .shadow)))
+lightingShadow l texels = shadowTexel (l .shadow) (texelOf texels (shadowUnit (l .shadow)))
 
 -- the channels from the sums
 unfoldable pub finishedOf : Lighting → Sums → List Float → List ℕ

@@ -3,7 +3,7 @@ ghost use mathlib.Core.Path.{_≡_};
 ghost use mathlib.Core.Bool.{true};
 ghost use Prim.Native.Nat.{_≤_};
 ghost use Rattle.block.specs.Answers.{inRange};
-ghost use Rattle.lighting_parts.specs.Parts.{lookupsOf, settingsOf, lightingFrame, lightingShadow, texelOf, finishedOf};
+ghost use Rattle.lighting_parts.specs.Parts.{lightingLookups, lightingSettings, lightingFrame, lightingShadow, texelOf, finishedOf};
 use lighting::Lighting;
 use shade_types::Frame;
 use shade_types::Lookups;
@@ -11,7 +11,7 @@ use shade_types::Settings;
 use shade_types::Sums;
 
 pub fn lookups_of(l: Lighting) -> Lookups
-    ensures { λ r. ⌜ r ≡ lookupsOf l ⌝ }
+    ensures { λ r. ⌜ r ≡ lightingLookups l ⌝ }
 {
     let distribution0 = l.distribution0;
     let distribution1 = l.distribution1;
@@ -34,7 +34,7 @@ pub fn lookups_of(l: Lighting) -> Lookups
 }
 
 pub fn settings_of(l: Lighting, texel: [f32; 4]) -> Settings
-    ensures { λ r. ⌜ r ≡ settingsOf l texel ⌝ }
+    ensures { λ r. ⌜ r ≡ lightingSettings l texel ⌝ }
 {
     let shadow = l.shadow;
     let fresnel = l.fresnel;

@@ -11,7 +11,7 @@ use Rattle.lighting.specs.Blank.{zeroFloat, blankLight}
 use Rattle.lighting.specs.declared.LightNumber.{LightNumber}
 use Rattle.lighting.specs.declared.Slot.{Slot}
 use Rattle.lighting.specs.declared.Distance.the-variants.{Without, Scaled}
-use Rattle.slots.specs.Slots.{countOf, numberOf}
+use Rattle.slots.specs.Slots.{countOf, lightNumberOf}
 use Rattle.light_fields.specs.LightFields.{lightRegister, positionOf, spotOf}
 use Rattle.lights.specs.Lights.{distanceOf, slotLight}
 
@@ -25,8 +25,8 @@ slot1 = record { 0 = 1 }
 abbrev light3 : LightNumber
 light3 = record { 0 = 3 }
 
-slot-holds : numberOf swapped slot1 ≡ light3
-unfolding numberOf
+slot-holds : lightNumberOf swapped slot1 ≡ light3
+unfolding lightNumberOf
 slot-holds = refl
 
 -- bit 27 of 1C4 takes the distance from light 3, whatever its slot; bit 25, light 1's, does not

@@ -25,7 +25,7 @@ use Rattle.lighting.specs.declared.Light.{Light}
 use Rattle.registers.specs.Registers.{regConfig1, registerOf, flagOf}
 use Rattle.configuration.specs.Supported.{configOf}
 use Rattle.lights.specs.Claims.{DistanceFits, LightFits}
-use Rattle.slots.specs.Slots.{countOf, numberOf}
+use Rattle.slots.specs.Slots.{countOf, lightNumberOf}
 use Rattle.light_fields.specs.LightFields.{lightRegister, lightColour, positionOf, spotOf}
 use Rattle.lights.specs.Lights.{distanceOf, lightOf, slotLight, lightsOf}
 
@@ -43,8 +43,8 @@ pub config-lt : (f : List ℕ) → configOf f < 16
 unfolding configOf
 config-lt f = omega arith
 
-pub number-lt : (f : List ℕ) (s : Slot) → numberOf f s .0 < 8
-unfolding numberOf
+pub number-lt : (f : List ℕ) (s : Slot) → lightNumberOf f s .0 < 8
+unfolding lightNumberOf
 number-lt f s = omega arith
 
 -- ---- the eight lights
@@ -70,11 +70,11 @@ unfolding slotLight
 blank-beyond f s h = rw (le-ltb (s .0) (countOf f) h)
 
 -- what holds of the blank light and of each light of the registers holds of the light in a slot
-slot-either : (P : Light → Type 0) (f : List ℕ) (s : Slot) → P (lightOf f (numberOf f s)) → P blankLight → P (slotLight f s)
+slot-either : (P : Light → Type 0) (f : List ℕ) (s : Slot) → P (lightOf f (lightNumberOf f s)) → P blankLight → P (slotLight f s)
 unfolding slotLight
 slot-either P f s h k = go (ltb (s .0) (countOf f))
   where
-    go : (b : Bool) → P (cond b (lightOf f (numberOf f s)) blankLight)
+    go : (b : Bool) → P (cond b (lightOf f (lightNumberOf f s)) blankLight)
     go true = h
     go false = k
 
@@ -87,7 +87,7 @@ unfolding lightOf
 light-number f n h = h
 
 pub slot-number-lt : (f : List ℕ) (s : Slot) → slotLight f s .number .0 < 8
-slot-number-lt f s = slot-either (λ (l : Light). l .number .0 < 8) f s (light-number f (numberOf f s) (number-lt f s)) blank-number
+slot-number-lt f s = slot-either (λ (l : Light). l .number .0 < 8) f s (light-number f (lightNumberOf f s) (number-lt f s)) blank-number
 
 -- ---- the floats
 
@@ -160,4 +160,4 @@ blank-fits =
     }
 
 pub slot-fits : (f : List ℕ) (s : Slot) → LightFits (slotLight f s)
-slot-fits f s = slot-either LightFits f s (light-fits f (numberOf f s)) blank-fits
+slot-fits f s = slot-either LightFits f s (light-fits f (lightNumberOf f s)) blank-fits

@@ -13,7 +13,7 @@ use Rattle.lighting.specs.declared.Distance.the-variants.{Without, Scaled}
 use Rattle.lighting.specs.declared.Light.{Light}
 use Rattle.registers.specs.Registers.{regConfig1, registerOf, flagOf}
 use Rattle.configuration.specs.Supported.{tableSpotlight, configOf, supportedBy}
-use Rattle.slots.specs.Slots.{countOf, numberOf}
+use Rattle.slots.specs.Slots.{countOf, lightNumberOf}
 use Rattle.light_fields.specs.LightFields.{lightRegister, lightColour, positionOf, spotOf}
 
 -- none where bit 24 + n of 1C4 is set, n being the light's number; else the bias and the scale, in the low 20 bits of offsets A and B
@@ -50,7 +50,7 @@ lightOf f n =
 
 -- the light in a slot: blank beyond the count
 unfoldable pub slotLight : List ℕ → Slot → Light
-slotLight f slot = cond (ltb (slot .0) (countOf f)) (lightOf f (numberOf f slot)) blankLight
+slotLight f slot = cond (ltb (slot .0) (countOf f)) (lightOf f (lightNumberOf f slot)) blankLight
 
 unfoldable pub lightsOf : List ℕ → List Light
 lightsOf f =

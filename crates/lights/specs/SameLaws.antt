@@ -7,7 +7,7 @@ use Rattle.lighting.specs.declared.Slot.{Slot}
 use Rattle.lighting.specs.declared.LightNumber.{LightNumber}
 use Rattle.registers.specs.Registers.{regLights}
 use Rattle.configuration.specs.Supported.{configOf}
-use Rattle.slots.specs.Slots.{countOf, numberOf}
+use Rattle.slots.specs.Slots.{countOf, lightNumberOf}
 use Rattle.light_fields.specs.LightFields.{lightRegister, lightColour, positionOf, spotOf}
 use Rattle.lights.specs.Lights.{distanceOf, spotlitOf, lightOf, slotLight, lightsOf}
 use Rattle.lights.specs.Claims.{SameLights}
@@ -22,8 +22,8 @@ module _ (f g : List ℕ) (s : SameLights f g) where
   unfolding configOf
   config-same = rw (s .blocks 131 (omega arith))
 
-  number-same : (slot : Slot) → numberOf f slot ≡ numberOf g slot
-  unfolding numberOf
+  number-same : (slot : Slot) → lightNumberOf f slot ≡ lightNumberOf g slot
+  unfolding lightNumberOf
   number-same slot = rw (s .slots)
 
   register-same : (n : LightNumber) (offset : ℕ) → n .0 < 8 → offset < 16 → lightRegister f n offset ≡ lightRegister g n offset
@@ -53,7 +53,7 @@ module _ (f g : List ℕ) (s : SameLights f g) where
 
   slot-same : (slot : Slot) → slotLight f slot ≡ slotLight g slot
   unfolding slotLight
-  slot-same slot = rw (count-same, number-same slot, light-same (numberOf g slot) (number-lt g slot))
+  slot-same slot = rw (count-same, number-same slot, light-same (lightNumberOf g slot) (number-lt g slot))
 
   pub lights-same : lightsOf f ≡ lightsOf g
   unfolding lightsOf

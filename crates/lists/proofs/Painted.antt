@@ -20,7 +20,7 @@ use Rattle.lists.specs.States.{fresh as freshState}
 use Rattle.lists.specs.Calls.{Call, step, run}
 use Rattle.lists.specs.Calls.Call.{Write, HandOver}
 use Rattle.lists.specs.Calls.Lent.{own}
-use Rattle.lists.specs.Plain.{plainRun, plainStep, zeros, accepts, does, plainWrite}
+use Rattle.lists.specs.Plain.{plainRun, plainStep, zeroMachine, accepts, does, plainWrite}
 use Rattle.lists.specs.Claim.{shadeFrom, Demand3, EndsHandedOver, HandsOver}
 use Rattle.lists.specs.Wrong.{painted, paintsLit}
 use Rattle.lists.proofs.Refuted.{shade-on, fresh-sound, hands-over}
@@ -41,7 +41,7 @@ handOver : Call
 handOver = HandOver own own own own
 
 lit-paints-refuted : (cs : List ℕ) → Demand3 (paintsLit cs) → ⊥
-unfolding Demand3 EndsHandedOver HandsOver run step freshState writeIf fileRefusal tablesRefusal registerRefusal blockRefusal plainRun plainStep zeros accepts does plainWrite isData lightingOn write handOver
+unfolding Demand3 EndsHandedOver HandsOver run step freshState writeIf fileRefusal tablesRefusal registerRefusal blockRefusal plainRun plainStep zeroMachine accepts does plainWrite isData lightingOn write handOver
 lit-paints-refuted cs d =
     let first = d 474 (lit≤ tt) (write 0x08F 1 ∷ write 0x1C4 0xFFFF_FFFF ∷ handOver ∷ []) (lit< tt) in
     let second = d 474 (lit≤ tt) (write 0x08F 1 ∷ write 0x1C4 0xFFFF_FFFF ∷ write 0x1C0 0xFF3_FCFF ∷ handOver ∷ []) (lit< tt) in

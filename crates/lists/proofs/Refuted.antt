@@ -8,7 +8,8 @@ use mathlib.Core.Bool.{Bool, true, false, cond, false≢true}
 use lib.ListN.{length, set, replicate}
 use lib.Dec.{eqb, lit<, lit≤}
 use Rattle.register_lighting.specs.Lighting.{lightingOf}
-use Rattle.decoding.specs.Decode.{lightingOn, off, decoded}
+use Rattle.lighting.specs.Blank.{off}
+use Rattle.decoding.specs.Decode.{lightingOn, decoded}
 use Rattle.block.specs.Answers.{packedReading}
 use Rattle.refusals.specs.Lengths.{fileRefusal, tablesRefusal, savedRefusal, blockRefusal}
 use Rattle.tables.specs.Upload.{isData}
@@ -25,14 +26,14 @@ use Rattle.lists.specs.States.{State, fresh}
 use Rattle.lists.specs.Calls.{Call, step, run}
 use Rattle.lists.specs.Calls.Call.{Write, Restore, HandOver}
 use Rattle.lists.specs.Calls.Lent.{own}
-use Rattle.lists.specs.Plain.{plainRun, plainStep, zeros, accepts, does, plainWrite}
+use Rattle.lists.specs.Plain.{plainRun, plainStep, zeroMachine, accepts, does, plainWrite}
 use Rattle.lists.specs.Claim.{shadeFrom, Demand3, EndsHandedOver, HandsOver}
 use Rattle.lists.specs.Invariant.{Sound}
 use Rattle.lists.specs.ReadCallLaws.{read-sound}
 use Rattle.lists.specs.Wrong.{refusesWrites, paintsOne, copyingNothing, copiesNothing, copyingOnce, copiesOnce}
 
 decoded-on : (f : List ℕ) → decoded f .on ≡ lightingOn f
-unfolding decoded off
+unfolding decoded
 decoded-on f = go (lightingOn f)
   where
     go : (b : Bool) → cond b (record { on = true; lighting = lightingOf f }) off .on ≡ b
@@ -92,7 +93,7 @@ stale b e r x h n o q =
     omega (arith, sym (zeros-off b e h n) ∙ ap (λ (s : Shaded). s .number) q ∙ shade-on r x fragment answer o)
 
 refuses-refuted : Demand3 refusesWrites → ⊥
-unfolding Demand3 EndsHandedOver HandsOver run step fresh fileRefusal tablesRefusal blockRefusal plainRun plainStep zeros accepts does plainWrite isData lightingOn handOver switchOn fragment answer
+unfolding Demand3 EndsHandedOver HandsOver run step fresh fileRefusal tablesRefusal blockRefusal plainRun plainStep zeroMachine accepts does plainWrite isData lightingOn handOver switchOn fragment answer
 refuses-refuted d =
     let after = d 474 (lit≤ tt) (switchOn ∷ handOver ∷ []) (lit< tt) in
     let h = hands-over (replicate 474 0) (replicate 12288 0) 0 freshCache (replicate 328 0) (replicate 12288 0) 0 fresh-sound refl in
@@ -103,7 +104,7 @@ refuses-refuted d =
     (after .shades refl fragment answer refl refl)
 
 nothing-refuted : Demand3 copiesNothing → ⊥
-unfolding Demand3 EndsHandedOver HandsOver run step fresh copyingNothing plainRun plainStep zeros accepts does plainWrite isData lightingOn handOver switchOn fragment answer
+unfolding Demand3 EndsHandedOver HandsOver run step fresh copyingNothing plainRun plainStep zeroMachine accepts does plainWrite isData lightingOn handOver switchOn fragment answer
 nothing-refuted d =
     let after = d 474 (lit≤ tt) (switchOn ∷ handOver ∷ []) (lit< tt) in
     stale (replicate 328 0) (replicate 12288 0) (set (replicate 474 0) 0x08F 1) (replicate 12288 0) refl refl refl (after .shades refl fragment answer refl refl)
@@ -119,7 +120,7 @@ once-tables s e = rw e refl
 
 -- the first hand-over copies a block of zeros, after a restore of zeros; the second, once lighting is on, copies nothing
 once-refuted : Demand3 copiesOnce → ⊥
-unfolding Demand3 EndsHandedOver HandsOver run step fresh restoreIf last fileRefusal tablesRefusal savedRefusal blockRefusal copyingOnce plainRun plainStep zeros accepts does plainWrite isData lightingOn handOver switchOn restoring fragment answer
+unfolding Demand3 EndsHandedOver HandsOver run step fresh restoreIf last fileRefusal tablesRefusal savedRefusal blockRefusal copyingOnce plainRun plainStep zeroMachine accepts does plainWrite isData lightingOn handOver switchOn restoring fragment answer
 once-refuted d =
     let file : List ℕ = replicate 474 0 in
     let tables : List ℕ = replicate 12288 0 in
@@ -137,7 +138,7 @@ once-refuted d =
 
 -- a list that leaves the lighting off
 paints-refuted : (colours : List ℕ) → Demand3 (paintsOne colours) → ⊥
-unfolding Demand3 EndsHandedOver HandsOver plainRun plainStep zeros accepts does lightingOn handOver fragment answer
+unfolding Demand3 EndsHandedOver HandsOver plainRun plainStep zeroMachine accepts does lightingOn handOver fragment answer
 paints-refuted colours d =
     let after = d 474 (lit≤ tt) (handOver ∷ []) (lit< tt) in
     let e = after .shades refl fragment answer refl refl in

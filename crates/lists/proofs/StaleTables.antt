@@ -25,7 +25,7 @@ use Rattle.lists.specs.States.{State, unitState, copyState, state, fresh
 use Rattle.lists.specs.Calls.{Call, step, run}
 use Rattle.lists.specs.Calls.Call.{Write, Restore, HandOver}
 use Rattle.lists.specs.Calls.Lent.{own}
-use Rattle.lists.specs.Plain.{plain, plainRun, plainStep, zeros, accepts, does, plainWrite}
+use Rattle.lists.specs.Plain.{plain, plainRun, plainStep, zeroMachine, accepts, does, plainWrite}
 use Rattle.lists.specs.Claim.{shadeFrom, ShadesAs, Demand3, EndsHandedOver, HandsOver}
 use Rattle.lists.specs.ReadCallLaws.{read-sound}
 use Rattle.lists.specs.Wrong.{copyingNoTables, copiesNoTables, copyingTablesOnce, copiesTablesOnce}
@@ -88,7 +88,7 @@ first : {l m : List ℕ} → l ≡ m → getD l 0 0 ≡ getD m 0 0
 first e = ap (λ (l : List ℕ). getD l 0 0) e
 
 no-tables-apart : Apart copiesNoTables scene (run copiesNoTables (freshState 474) scene)
-unfolding EndsHandedOver HandsOver plainRun plainStep zeros accepts does plainWrite isData
+unfolding EndsHandedOver HandsOver plainRun plainStep zeroMachine accepts does plainWrite isData
 no-tables-apart =
     subst (λ (s : State). Apart copiesNoTables scene s) (sym no-tables-after)
     (record {
@@ -99,7 +99,7 @@ no-tables-apart =
     })
 
 tables-once-apart : Apart copiesTablesOnce scenes (run copiesTablesOnce (freshState 474) scenes)
-unfolding EndsHandedOver HandsOver plainRun plainStep zeros accepts does plainWrite isData
+unfolding EndsHandedOver HandsOver plainRun plainStep zeroMachine accepts does plainWrite isData
 tables-once-apart =
     subst (λ (s : State). Apart copiesTablesOnce scenes s) (sym tables-once-after)
     (record {

@@ -13,7 +13,7 @@ use Rattle.lists.specs.Ours.{ours}
 use Rattle.lists.specs.States.{State, fresh}
 use Rattle.lists.specs.Calls.{Call, step, run, answer}
 use Rattle.lists.specs.Calls.Call.{Write, Restore, Read, HandOver}
-use Rattle.lists.specs.Plain.{accepts, Machine, zeros, plainStep, plainRun, plain}
+use Rattle.lists.specs.Plain.{accepts, Machine, zeroMachine, plainStep, plainRun, plain}
 use Rattle.lists.specs.Claim.{HandsOver, EndsHandedOver, Demand3, Answered, Answers}
 use Rattle.lists.specs.Invariant.{Inv, Shows}
 use Rattle.lists.specs.InvariantLaws.{fresh-holds}

@@ -13,7 +13,7 @@ use Rattle.tables.specs.Generation.{last}
 use Rattle.tables.specs.GenerationLaws.{below-last}
 use Rattle.unit.specs.Fresh.{freshCache}
 use Rattle.lists.specs.States.{UnitState, State, state, fresh}
-use Rattle.lists.specs.Plain.{Machine, zeros}
+use Rattle.lists.specs.Plain.{Machine, zeroMachine}
 use Rattle.lists.specs.Invariant.{Rises, Matches, Inv}
 
 take-zeros : (a n : ℕ) → a ≤ n → _≡_ {A = List ℕ} (take a (replicate n 0)) (replicate a 0)
@@ -21,8 +21,8 @@ take-zeros zero n h = refl
 take-zeros (suc a) zero h = absurd (omega arith)
 take-zeros (suc a) (suc n) h = ap (λ (l : List ℕ). 0 ∷ l) (take-zeros a n (omega arith))
 
-pub fresh-holds : (n : ℕ) → 474 ≤ n → Inv n 0 (fresh n) zeros
-unfolding fresh zeros freshCache
+pub fresh-holds : (n : ℕ) → 474 ≤ n → Inv n 0 (fresh n) zeroMachine
+unfolding fresh zeroMachine freshCache
 fresh-holds n big =
     record {
       unit =

@@ -36,8 +36,8 @@ pub record Machine : Type 0 where
 abbrev pub machine : List ℕ → List ℕ → Machine
 machine r e = record { registers = r; entries = e }
 
-unfoldable pub zeros : Machine
-zeros = machine (replicate 474 0) (replicate 12288 0)
+unfoldable pub zeroMachine : Machine
+zeroMachine = machine (replicate 474 0) (replicate 12288 0)
 
 -- "A write to 1C8–1CF puts its value and step bits into the entry that the machine's 1C5 names, or nowhere for tables 24 to 31, and moves 1C5
 -- on as above. Any other write puts the word into its register."
@@ -67,4 +67,4 @@ plainRun n m (c ∷ cs) = plainRun n (plainStep n m c) cs
 
 -- after a list of calls, on a unit whose file has n words
 abbrev pub plain : ℕ → List Call → Machine
-plain n calls = plainRun n zeros calls
+plain n calls = plainRun n zeroMachine calls

@@ -37,8 +37,8 @@ lookupOf f field =
     }
 
 -- a table's lookup: missing where its bit of 1C4 is set or the configuration has no room for the table
-unfoldable pub tableOf : List ℕ → ℕ → ℕ → ℕ → OptionalLookup
-tableOf f table disabled field =
+unfoldable pub lookupIf : List ℕ → ℕ → ℕ → ℕ → OptionalLookup
+lookupIf f table disabled field =
     cond (not (flagOf (registerOf f regConfig1) disabled) && supportedBy (configOf f) table)
     (Present (lookupOf f field))
     Missing
@@ -47,11 +47,11 @@ tableOf f table disabled field =
 unfoldable pub lookupsOf : List ℕ → TableLookups
 lookupsOf f =
     record {
-      distribution0 = tableOf f tableDistribution0 16 0;
-      distribution1 = tableOf f tableDistribution1 17 1;
-      fresnel = tableOf f tableFresnel 19 3;
-      «reflect_red» = tableOf f tableReflectRed 20 6;
-      «reflect_green» = tableOf f tableReflectGreen 21 5;
-      «reflect_blue» = tableOf f tableReflectBlue 22 4;
+      distribution0 = lookupIf f tableDistribution0 16 0;
+      distribution1 = lookupIf f tableDistribution1 17 1;
+      fresnel = lookupIf f tableFresnel 19 3;
+      «reflect_red» = lookupIf f tableReflectRed 20 6;
+      «reflect_green» = lookupIf f tableReflectGreen 21 5;
+      «reflect_blue» = lookupIf f tableReflectBlue 22 4;
       spotlight = lookupOf f 2;
     }

@@ -15,7 +15,7 @@ use registers::flag;
 use registers::register;
 ghost use mathlib.Core.Path.{_≡_};
 ghost use Prim.Native.Nat.{_<_};
-ghost use Rattle.lookups.specs.Tables.{scaleOf, lookupOf, tableOf, lookupsOf};
+ghost use Rattle.lookups.specs.Tables.{scaleOf, lookupOf, lookupIf, lookupsOf};
 
 const REG_TABLE_ABSOLUTE: usize = 0x1D0;
 
@@ -48,7 +48,7 @@ fn lookup(file: &[u32], field: u32) -> Lookup
 // The lookup of a table that its bit of 1C4 doesn't disable and the configuration has room for.
 fn table(file: &[u32], table: u32, disabled: u32, field: u32) -> OptionalLookup
     requires { ⌜ field < 7 ⌝ }
-    ensures { λ r. ⌜ r ≡ tableOf (now (file .entry)) table disabled field ⌝ }
+    ensures { λ r. ⌜ r ≡ lookupIf (now (file .entry)) table disabled field ⌝ }
 {
     if !flag(register(file, REG_CONFIG1), disabled) & supported(configuration(file), table) {
         OptionalLookup::Present(lookup(file, field))

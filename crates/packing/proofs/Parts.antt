@@ -10,21 +10,21 @@ use Rattle.lighting.specs.declared.Lighting.{Lighting}
 use Rattle.block.specs.Words.{headWords, lightWords, lightAt, slotWords, slotsWords, packed}
 use Rattle.block.specs.Formed.{slotAt}
 use Rattle.block.specs.ListLaws.{length-head, length-slots, length-packed}
-use Rattle.block_rows.specs.Put.{put}
+use Rattle.block_rows.specs.Put.{putWords}
 use Rattle.block_rows.specs.PutLaws.{after, whole}
 
-pub none-put : (l : Lighting) (b : List ℕ) → b ≡ put b 40 (slotsWords l 0)
-unfolding put slotsWords
+pub none-put : (l : Lighting) (b : List ℕ) → b ≡ putWords b 40 (slotsWords l 0)
+unfolding putWords slotsWords
 none-put l b = refl
 
 -- one more slot
 pub slot-put : (l : Lighting) (s : ℕ) (b b1 b2 : List ℕ)
-    → b1 ≡ put b 40 (slotsWords l s)
-    → b2 ≡ put b1 (slotAt s) (cond (ltb s (l .«light_count»)) (lightWords (lightAt l s)) (replicate 36 0))
-    → b2 ≡ put b 40 (slotsWords l (s + 1))
+    → b1 ≡ putWords b 40 (slotsWords l s)
+    → b2 ≡ putWords b1 (slotAt s) (cond (ltb s (l .«light_count»)) (lightWords (lightAt l s)) (replicate 36 0))
+    → b2 ≡ putWords b 40 (slotsWords l (s + 1))
 unfolding slotsWords slotWords
 slot-put l s b b1 b2 e1 e2 = rw (add-one s) (after _ _ _ 40 (36 * s) _ _ (length-slots l s) e1 e2)
 
-pub all-put : (l : Lighting) (b b1 b2 : List ℕ) → length b ≡ 328 → b1 ≡ put b 0 (headWords l) → b2 ≡ put b1 40 (slotsWords l 8) → b2 ≡ packed l
+pub all-put : (l : Lighting) (b b1 b2 : List ℕ) → length b ≡ 328 → b1 ≡ putWords b 0 (headWords l) → b2 ≡ putWords b1 40 (slotsWords l 8) → b2 ≡ packed l
 unfolding packed
 all-put l b b1 b2 n e1 e2 = after _ _ _ 0 40 _ _ (length-head l) e1 e2 ∙ whole b (packed l) (n ∙ sym (length-packed l))

@@ -15,12 +15,12 @@ ghost use Rattle.refusals.specs.Numbers.{outcomeNumber};
 ghost use Rattle.block.specs.Words.{lightWords, packed};
 ghost use Rattle.block.specs.Formed.{slotAt};
 ghost use Rattle.block.specs.Answers.{inRange, packing, packs};
-ghost use Rattle.block_rows.specs.Put.{put};
+ghost use Rattle.block_rows.specs.Put.{putWords};
 
 // Each slot's part by itself: its light's words, or zeros where it isn't lit.
 fn put_slot(block: &mut [u32], slot: Slot, lit: bool, light: Light)
     requires { ⌜ (length (now block) ≡ 328) × (slot .0 < 8) × (lit ≡ true → light .number .0 ≤ 7) ⌝ }
-    ensures { λ _. ⌜ now (block .exit) ≡ put (now (block .entry)) (slotAt (slot .0)) (cond lit (lightWords light) (replicate 36 0)) ⌝ }
+    ensures { λ _. ⌜ now (block .exit) ≡ putWords (now (block .entry)) (slotAt (slot .0)) (cond lit (lightWords light) (replicate 36 0)) ⌝ }
 {
     let at = 40 + 36 * slot.0;
     if lit {

@@ -8,6 +8,8 @@ use Rattle.binary32.specs.declared.Place.{Place}
 use Rattle.vectors.specs.Vectors.{_⊕_, _⊗_}
 use Rattle.lighting.specs.declared.Distance.{Distance}
 use Rattle.lighting.specs.declared.Distance.the-variants.{Without, Scaled}
+use Rattle.lighting.specs.declared.LightNumber.{LightNumber}
+use Rattle.configuration.specs.Supported.{tableDistance}
 use Rattle.shade_types.specs.declared.Reading.{Reading}
 use Rattle.shade_types.specs.declared.Reading.the-variants.{Unread}
 use Rattle.shade_places.specs.Places.{tableFor, readingAt}
@@ -16,6 +18,6 @@ use Rattle.shade_places.specs.Places.{tableFor, readingAt}
 unfoldable pub distancePlace : Float → Float → Float → Place
 distancePlace bias scale away = unsignedPlaceOf (clampOf (scale ⊗ away ⊕ bias) float0 float1)
 
-unfoldable pub distanceReadingBy : Distance → ℕ → Float → Reading
+unfoldable pub distanceReadingBy : Distance → LightNumber → Float → Reading
 distanceReadingBy Without number away = Unread
-distanceReadingBy (Scaled bias scale) number away = readingAt (tableFor 16 number) (distancePlace bias scale away)
+distanceReadingBy (Scaled bias scale) number away = readingAt (tableFor tableDistance number) (distancePlace bias scale away)

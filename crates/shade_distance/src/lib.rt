@@ -15,7 +15,7 @@ fn distance_place(bias: f32, scale: f32, away: f32) -> Place
 
 // Of a light that is so far away.
 pub fn distance_reading(light: Light, away: f32) -> Reading
-    ensures { λ r. ⌜ r ≡ distanceReadingBy (light .distance) (light .number .0) away ⌝ }
+    ensures { λ r. ⌜ r ≡ distanceReadingBy (light .distance) (light .number) away ⌝ }
 {
     let distance = light.distance;
     let number = light.number;

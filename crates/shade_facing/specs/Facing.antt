@@ -7,7 +7,7 @@ use Rattle.binary32.specs.Order.{magnitudeOf, maxOf, minOf}
 use Rattle.vectors.specs.Vectors.{_⊘_, dotOf}
 use Rattle.lighting.specs.declared.Light.{Light}
 
--- NaN faces a one-sided light with 0
+-- a NaN facing is 0 for a one-sided light
 unfoldable pub facingOf : Bool → Float → Float
 facingOf twoSided x = cond twoSided (magnitudeOf x) (maxOf x float0)
 

@@ -12,26 +12,27 @@ use Rattle.shade_types.specs.declared.Lookups.{Lookups}
 use Rattle.shade_types.specs.declared.Reading.{Reading}
 use Rattle.shade_types.specs.declared.Reading.the-variants.{Unread}
 use Rattle.shade_types.specs.declared.Readings.{Readings}
-use Rattle.shade_places.specs.Places.{distribution0Table, distribution1Table, fresnelTable, blueTable, greenTable, redTable, tableFor, readingBy, readingIf}
+use Rattle.configuration.specs.Supported.{tableDistribution0, tableDistribution1, tableFresnel, tableReflectBlue, tableReflectGreen, tableReflectRed, tableSpotlight}
+use Rattle.shade_places.specs.Places.{tableFor, readingBy, readingIf}
 
 unfoldable pub spotReading : Light → Lookup → List Float → Reading
 spotReading light lookup inputs =
-    cond (light .spotlight) (readingBy (tableFor 8 (light .number .0)) lookup (light .«two_sided») inputs) Unread
+    cond (light .spotlight) (readingBy (tableFor tableSpotlight (light .number)) lookup (light .«two_sided») inputs) Unread
 
 -- only the last slot lit reads fresnel
 unfoldable pub fresnelReading : Bool → OptionalLookup → Bool → List Float → Reading
-fresnelReading last lookup twoSided inputs = cond last (readingIf fresnelTable lookup twoSided inputs) Unread
+fresnelReading last lookup twoSided inputs = cond last (readingIf tableFresnel lookup twoSided inputs) Unread
 
 unfoldable pub readingsBy : Lookups → Light → List Float → Bool → Readings
 readingsBy lookups light inputs last =
     let twoSided = light .«two_sided» in
     record {
       spot = spotReading light (lookups .spotlight) inputs;
-      distribution0 = readingIf distribution0Table (lookups .distribution0) twoSided inputs;
-      red = readingIf redTable (lookups .«reflect_red») twoSided inputs;
-      green = readingIf greenTable (lookups .«reflect_green») twoSided inputs;
-      blue = readingIf blueTable (lookups .«reflect_blue») twoSided inputs;
-      distribution1 = readingIf distribution1Table (lookups .distribution1) twoSided inputs;
+      distribution0 = readingIf tableDistribution0 (lookups .distribution0) twoSided inputs;
+      red = readingIf tableReflectRed (lookups .«reflect_red») twoSided inputs;
+      green = readingIf tableReflectGreen (lookups .«reflect_green») twoSided inputs;
+      blue = readingIf tableReflectBlue (lookups .«reflect_blue») twoSided inputs;
+      distribution1 = readingIf tableDistribution1 (lookups .distribution1) twoSided inputs;
       fresnel = fresnelReading last (lookups .fresnel) twoSided inputs;
     }
 

@@ -7,6 +7,7 @@ use lib.Ieee.{Float}
 use Rattle.binary32.specs.Numbers.{float0}
 use Rattle.binary32.specs.Places.{unsignedPlaceOf, signedPlaceOf}
 use Rattle.binary32.specs.declared.Place.{Place}
+use Rattle.lighting.specs.declared.LightNumber.{LightNumber}
 use Rattle.lighting.specs.declared.Lookup.{Lookup}
 use Rattle.lighting.specs.declared.OptionalLookup.{OptionalLookup}
 use Rattle.lighting.specs.declared.OptionalLookup.the-variants.{Missing, Present}
@@ -16,27 +17,9 @@ use Rattle.shade_types.specs.declared.Reading.the-variants.{Unread, At}
 
 -- ---- which table
 
-abbrev pub distribution0Table : ℕ
-distribution0Table = 0
-
-abbrev pub distribution1Table : ℕ
-distribution1Table = 1
-
-abbrev pub fresnelTable : ℕ
-fresnelTable = 3
-
-abbrev pub blueTable : ℕ
-blueTable = 4
-
-abbrev pub greenTable : ℕ
-greenTable = 5
-
-abbrev pub redTable : ℕ
-redTable = 6
-
--- one of eight tables from the first on; a light's number is below 8
-unfoldable pub tableFor : ℕ → ℕ → ℕ
-tableFor first number = first + number % 8
+-- one of eight tables from the first on, by the light's number, which is below 8
+unfoldable pub tableFor : ℕ → LightNumber → ℕ
+tableFor first number = first + number .0 % 8
 
 -- ---- where in it
 
@@ -44,7 +27,7 @@ tableFor first number = first + number % 8
 unfoldable pub placeOf : Bool → Bool → Float → Place
 placeOf absolute twoSided x = cond absolute (unsignedPlaceOf (facingOf twoSided x)) (signedPlaceOf x)
 
--- 0 for an input that no configuration has
+-- 0 for an input above 7
 unfoldable pub inputOf : Lookup → List Float → Float
 inputOf lookup inputs = getD inputs (lookup .input) float0
 

@@ -28,7 +28,7 @@ fn place_of(absolute: bool, both: bool, x: f32) -> Place
 // The table of a light's number, of eight tables from `first` on.
 pub fn table_for(first: u32, number: LightNumber) -> u32
     requires { ⌜ first ≤ 16 ⌝ }
-    ensures { λ r. ⌜ r ≡ tableFor first (number .0) ⌝ }
+    ensures { λ r. ⌜ r ≡ tableFor first number ⌝ }
 {
     first + (number.0 % 8) as u32
 }

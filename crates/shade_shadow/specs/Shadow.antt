@@ -13,9 +13,9 @@ unfoldable pub inverted : Bool → List Float → List Float
 inverted invert t =
     cond invert (float1 ⊖ at t 0 ∷ float1 ⊖ at t 1 ∷ float1 ⊖ at t 2 ∷ float1 ⊖ at t 3 ∷ []) t
 
-unfoldable pub shadowOf : OptionalShadow → List Float → List Float
-shadowOf Unshadowed texel = float1 ∷ float1 ∷ float1 ∷ float1 ∷ []
-shadowOf (Shadowed s) texel = inverted (s .invert) texel
+unfoldable pub shadowTexel : OptionalShadow → List Float → List Float
+shadowTexel Unshadowed texel = float1 ∷ float1 ∷ float1 ∷ float1 ∷ []
+shadowTexel (Shadowed s) texel = inverted (s .invert) texel
 
 -- ---- what a shadow applies to
 

@@ -1,7 +1,7 @@
 // A draw's shadow: the texture unit that holds it, what its texel gives, and what it applies to.
 ghost use mathlib.Core.Path.{_≡_};
 ghost use Rattle.block.specs.Answers.{shadowUnit};
-ghost use Rattle.shade_shadow.specs.Shadow.{inverted as invertedOf, shadowOf, primaryOf, secondaryOf, alphaOf};
+ghost use Rattle.shade_shadow.specs.Shadow.{inverted as invertedOf, shadowTexel, primaryOf, secondaryOf, alphaOf};
 use lighting::OptionalShadow;
 
 // 0 where there is none.
@@ -26,7 +26,7 @@ fn inverted(invert: bool, t: [f32; 4]) -> [f32; 4]
 
 // From the texel of the shadow's unit.
 pub fn shadow_texel(shadow: OptionalShadow, texel: [f32; 4]) -> [f32; 4]
-    ensures { λ r. ⌜ r ≡ shadowOf shadow texel ⌝ }
+    ensures { λ r. ⌜ r ≡ shadowTexel shadow texel ⌝ }
 {
     match shadow {
         OptionalShadow::Unshadowed => [1.0, 1.0, 1.0, 1.0],

@@ -13,7 +13,7 @@ use Rattle.shade_types.specs.declared.Reading.{Reading}
 use Rattle.shade_light.specs.Toward.{towardBy, towardOf}
 use Rattle.shade_light.specs.Way.{wayTo}
 use Rattle.shade_distance.specs.Distance.{distanceReadingBy}
-use Rattle.table_reading.specs.Entries.{readOf}
+use Rattle.table_reading.specs.Entries.{readValue}
 use Rattle.shade_step.specs.Lookups.{distanceReading}
 use Rattle.shade_step.specs.ReadingsLaws.{distance-by}
 
@@ -26,9 +26,9 @@ toward-is light frame needed way toward w t = t ∙ ap (λ (x : Way). towardBy (
 
 pub distance-is : (tables : List ℕ) (light : Light) (view : List Float) (way : Way) (d : Float)
     → way ≡ wayTo light view
-    → d ≡ readOf tables (distanceReadingBy (light .distance) (light .number .0) (way .length))
-    → d ≡ readOf tables (distanceReading light view)
+    → d ≡ readValue tables (distanceReadingBy (light .distance) (light .number) (way .length))
+    → d ≡ readValue tables (distanceReading light view)
 distance-is tables light view way d w e =
     e
-    ∙ ap (λ (x : Way). readOf tables (distanceReadingBy (light .distance) (light .number .0) (x .length))) w
-    ∙ ap (λ (x : Reading). readOf tables x) (distance-by light view)
+    ∙ ap (λ (x : Way). readValue tables (distanceReadingBy (light .distance) (light .number) (x .length))) w
+    ∙ ap (λ (x : Reading). readValue tables x) (distance-by light view)

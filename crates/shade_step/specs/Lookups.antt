@@ -6,9 +6,10 @@ use mathlib.Core.Bool.{Bool, cond}
 use lib.Ieee.{Float}
 use Rattle.binary32.specs.Numbers.{float1}
 use Rattle.binary32.specs.declared.Place.{Place}
-use Rattle.tables.specs.Lookup.{lookupOf}
+use Rattle.tables.specs.Lookup.{tableLookup}
 use Rattle.vectors.specs.Vectors.{_⊗_}
 use Rattle.lighting.specs.declared.Light.{Light}
+use Rattle.lighting.specs.declared.LightNumber.{LightNumber}
 use Rattle.lighting.specs.declared.Lookup.{Lookup}
 use Rattle.lighting.specs.declared.OptionalLookup.{OptionalLookup}
 use Rattle.lighting.specs.declared.OptionalLookup.the-variants.{Missing, Present}
@@ -20,14 +21,15 @@ use Rattle.shade_types.specs.declared.Lookups.{Lookups}
 use Rattle.shade_types.specs.declared.Values.{Values}
 use Rattle.shade_light.specs.Toward.{awayOf}
 use Rattle.shade_inputs.specs.Inputs.{inputsOf}
-use Rattle.shade_places.specs.Places.{distribution0Table, distribution1Table, fresnelTable, blueTable, greenTable, redTable, placeOf, inputOf}
+use Rattle.configuration.specs.Supported.{tableDistribution0, tableDistribution1, tableFresnel, tableReflectBlue, tableReflectGreen, tableReflectRed, tableSpotlight, tableDistance}
+use Rattle.shade_places.specs.Places.{placeOf, inputOf}
 use Rattle.shade_distance.specs.Distance.{distancePlace, distanceReadingBy}
 use Rattle.shade_types.specs.declared.Reading.{Reading}
 
 -- ---- one lookup
 
 abbrev pub atPlace : List ℕ → ℕ → Place → Float
-atPlace tables table place = lookupOf tables table (place .entry) (place .delta)
+atPlace tables table place = tableLookup tables table (place .entry) (place .delta)
 
 unfoldable pub valueOf : List ℕ → ℕ → Lookup → Bool → List Float → Float
 valueOf tables table lookup twoSided inputs =
@@ -40,33 +42,33 @@ valueIf tables table Missing twoSided inputs missing = missing
 valueIf tables table (Present lookup) twoSided inputs missing = valueOf tables table lookup twoSided inputs
 
 -- by the light's number
-abbrev pub spotlightTable : ℕ → ℕ
-spotlightTable number = 8 + number
+abbrev pub spotlightTable : LightNumber → ℕ
+spotlightTable number = tableSpotlight + number .0
 
-unfoldable pub spotOf : List ℕ → Light → Lookup → List Float → Float
-spotOf tables light lookup inputs =
-    cond (light .spotlight) (valueOf tables (spotlightTable (light .number .0)) lookup (light .«two_sided») inputs) float1
+unfoldable pub spotValue : List ℕ → Light → Lookup → List Float → Float
+spotValue tables light lookup inputs =
+    cond (light .spotlight) (valueOf tables (spotlightTable (light .number)) lookup (light .«two_sided») inputs) float1
 
 -- only the last slot lit reads fresnel
-unfoldable pub fresnelOf : List ℕ → Bool → OptionalLookup → Bool → List Float → Float
-fresnelOf tables last lookup twoSided inputs = cond last (valueIf tables fresnelTable lookup twoSided inputs float1) float1
+unfoldable pub fresnelValue : List ℕ → Bool → OptionalLookup → Bool → List Float → Float
+fresnelValue tables last lookup twoSided inputs = cond last (valueIf tables tableFresnel lookup twoSided inputs float1) float1
 
 -- ---- the distance
 
 -- by the light's number
-abbrev pub distanceTable : ℕ → ℕ
-distanceTable number = 16 + number
+abbrev pub distanceTable : LightNumber → ℕ
+distanceTable number = tableDistance + number .0
 
-unfoldable pub distanceBy : List ℕ → Distance → ℕ → Float → Float
+unfoldable pub distanceBy : List ℕ → Distance → LightNumber → Float → Float
 distanceBy tables Without number away = float1
 distanceBy tables (Scaled bias scale) number away = atPlace tables (distanceTable number) (distancePlace bias scale away)
 
-unfoldable pub distanceOf : List ℕ → Light → List Float → Float
-distanceOf tables light view = distanceBy tables (light .distance) (light .number .0) (awayOf view (light .position))
+unfoldable pub distanceValue : List ℕ → Light → List Float → Float
+distanceValue tables light view = distanceBy tables (light .distance) (light .number) (awayOf view (light .position))
 
 -- where it is read
 unfoldable pub distanceReading : Light → List Float → Reading
-distanceReading light view = distanceReadingBy (light .distance) (light .number .0) (awayOf view (light .position))
+distanceReading light view = distanceReadingBy (light .distance) (light .number) (awayOf view (light .position))
 
 -- ---- all that one light reads
 
@@ -74,19 +76,19 @@ distanceReading light view = distanceReadingBy (light .distance) (light .number 
 unfoldable pub valuesBy : List ℕ → Lookups → Light → List Float → Float → Bool → Values
 valuesBy tables lookups light inputs distance last =
     let twoSided = light .«two_sided» in
-    let red = valueIf tables redTable (lookups .«reflect_red») twoSided inputs float1 in
+    let red = valueIf tables tableReflectRed (lookups .«reflect_red») twoSided inputs float1 in
     record {
       distance = distance;
-      spot = spotOf tables light (lookups .spotlight) inputs;
-      distribution0 = valueIf tables distribution0Table (lookups .distribution0) twoSided inputs float1;
+      spot = spotValue tables light (lookups .spotlight) inputs;
+      distribution0 = valueIf tables tableDistribution0 (lookups .distribution0) twoSided inputs float1;
       red = red;
-      green = valueIf tables greenTable (lookups .«reflect_green») twoSided inputs red;
-      blue = valueIf tables blueTable (lookups .«reflect_blue») twoSided inputs red;
-      distribution1 = valueIf tables distribution1Table (lookups .distribution1) twoSided inputs float1;
-      fresnel = fresnelOf tables last (lookups .fresnel) twoSided inputs;
+      green = valueIf tables tableReflectGreen (lookups .«reflect_green») twoSided inputs red;
+      blue = valueIf tables tableReflectBlue (lookups .«reflect_blue») twoSided inputs red;
+      distribution1 = valueIf tables tableDistribution1 (lookups .distribution1) twoSided inputs float1;
+      fresnel = fresnelValue tables last (lookups .fresnel) twoSided inputs;
     }
 
 unfoldable pub valuesOf : List ℕ → Lookups → Frame → Toward → Light → Bool → Values
 valuesOf tables lookups frame toward light last =
     valuesBy tables lookups light (inputsOf (lookups .config) frame toward (lookups .«needs_half») (light .spot))
-    (distanceOf tables light (frame .view)) last
+    (distanceValue tables light (frame .view)) last

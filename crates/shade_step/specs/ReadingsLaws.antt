@@ -10,6 +10,7 @@ use lib.Ieee.{Float}
 use Rattle.flags.specs.FlagsLaws.{neither}
 use Rattle.binary32.specs.Numbers.{float1}
 use Rattle.lighting.specs.declared.Light.{Light}
+use Rattle.lighting.specs.declared.LightNumber.{LightNumber}
 use Rattle.lighting.specs.declared.Lookup.{Lookup}
 use Rattle.lighting.specs.declared.OptionalLookup.{OptionalLookup}
 use Rattle.lighting.specs.declared.OptionalLookup.the-variants.{Missing, Present}
@@ -23,14 +24,15 @@ use Rattle.shade_light.specs.AwayLaws.{away-is}
 use Rattle.shade_types.specs.declared.Lookups.{Lookups}
 use Rattle.shade_types.specs.declared.Reading.the-variants.{Unread}
 use Rattle.vectors.specs.Vectors.{_⊗_}
-use Rattle.shade_places.specs.Places.{fresnelTable, tableFor, readingBy, readingIf}
+use Rattle.configuration.specs.Supported.{tableFresnel}
+use Rattle.shade_places.specs.Places.{tableFor, readingBy, readingIf}
 use Rattle.shade_values.specs.Values.{present, readsTables, scaledIf, spotScaled, fresnelScaled, valuesFrom, unread}
-use Rattle.shade_step.specs.Lookups.{valueOf, valueIf, spotOf, fresnelOf, distanceBy, distanceOf, valuesBy, valuesOf, distanceReading}
+use Rattle.shade_step.specs.Lookups.{valueOf, valueIf, spotValue, fresnelValue, distanceBy, distanceValue, valuesBy, valuesOf, distanceReading}
 use Rattle.shade_lookups.specs.Readings.{spotReading, fresnelReading, readingsBy, readingsOf}
-use Rattle.table_reading.specs.Entries.{readOf, readAll}
+use Rattle.table_reading.specs.Entries.{readValue, readAll}
 use Rattle.shade_distance.specs.Distance.{distanceReadingBy}
 
-table-is : (first number : ℕ) → number < 8 → tableFor first number ≡ first + number
+table-is : (first : ℕ) (number : LightNumber) → number .0 < 8 → tableFor first number ≡ first + number .0
 unfolding tableFor
 table-is first number h = omega arith
 
@@ -45,44 +47,44 @@ same false = refl
 
 module _ (tables : List ℕ) where
   value-read : (table : ℕ) (k : OptionalLookup) (twoSided : Bool) (inputs : List Float) (missing : Float)
-      → scaledIf k (readOf tables (readingIf table k twoSided inputs)) missing ≡ valueIf tables table k twoSided inputs missing
-  unfolding scaledIf readOf readingIf readingBy valueIf valueOf
+      → scaledIf k (readValue tables (readingIf table k twoSided inputs)) missing ≡ valueIf tables table k twoSided inputs missing
+  unfolding scaledIf readValue readingIf readingBy valueIf valueOf
   value-read table Missing twoSided inputs missing = refl
   value-read table (Present k) twoSided inputs missing = refl
 
   fresnel-read : (last : Bool) (k : OptionalLookup) (twoSided : Bool) (inputs : List Float)
-      → fresnelScaled last k (readOf tables (fresnelReading last k twoSided inputs)) ≡ fresnelOf tables last k twoSided inputs
-  unfolding fresnelScaled fresnelReading fresnelOf
-  fresnel-read true k twoSided inputs = value-read fresnelTable k twoSided inputs float1
+      → fresnelScaled last k (readValue tables (fresnelReading last k twoSided inputs)) ≡ fresnelValue tables last k twoSided inputs
+  unfolding fresnelScaled fresnelReading fresnelValue
+  fresnel-read true k twoSided inputs = value-read tableFresnel k twoSided inputs float1
   fresnel-read false k twoSided inputs = refl
 
   picked : (on : Bool) (table : ℕ) (k : Lookup) (twoSided : Bool) (inputs : List Float)
-      → cond on ((k .scale) ⊗ readOf tables (cond on (readingBy table k twoSided inputs) Unread)) float1
+      → cond on ((k .scale) ⊗ readValue tables (cond on (readingBy table k twoSided inputs) Unread)) float1
       ≡ cond on (valueOf tables table k twoSided inputs) float1
-  unfolding readOf readingBy valueOf
+  unfolding readValue readingBy valueOf
   picked true table k twoSided inputs = refl
   picked false table k twoSided inputs = refl
 
   spot-read : (light : Light) (k : Lookup) (inputs : List Float)
       → light .number .0 < 8
-      → spotScaled light k (readOf tables (spotReading light k inputs)) ≡ spotOf tables light k inputs
-  unfolding spotScaled spotReading spotOf
+      → spotScaled light k (readValue tables (spotReading light k inputs)) ≡ spotValue tables light k inputs
+  unfolding spotScaled spotReading spotValue
   spot-read light k inputs h =
-      rw (table-is 8 (light .number .0) h)
+      rw (table-is 8 (light .number) h)
       (picked (light .spotlight) (8 + light .number .0) k (light .«two_sided») inputs)
 
-  distance-read-by : (d : Distance) (number : ℕ) (away : Float)
-      → number < 8
-      → readOf tables (distanceReadingBy d number away) ≡ distanceBy tables d number away
-  unfolding readOf distanceReadingBy distanceBy
+  distance-read-by : (d : Distance) (number : LightNumber) (away : Float)
+      → number .0 < 8
+      → readValue tables (distanceReadingBy d number away) ≡ distanceBy tables d number away
+  unfolding readValue distanceReadingBy distanceBy
   distance-read-by Without number away h = refl
   distance-read-by (Scaled bias scale) number away h = rw (table-is 16 number h)
 
   pub distance-read : (light : Light) (view : List Float)
       → light .number .0 < 8
-      → readOf tables (distanceReading light view) ≡ distanceOf tables light view
-  unfolding distanceReading distanceOf
-  distance-read light view h = distance-read-by (light .distance) (light .number .0) (awayOf view (light .position)) h
+      → readValue tables (distanceReading light view) ≡ distanceValue tables light view
+  unfolding distanceReading distanceValue
+  distance-read light view h = distance-read-by (light .distance) (light .number) (awayOf view (light .position)) h
 
   values-read : (lookups : Lookups) (light : Light) (inputs : List Float) (distance : Float) (last : Bool)
       → light .number .0 < 8
@@ -95,7 +97,7 @@ module _ (tables : List ℕ) where
   values-unread : (lookups : Lookups) (light : Light) (inputs : List Float) (distance : Float) (last : Bool)
       → readsTables lookups light ≡ false
       → unread distance ≡ valuesBy tables lookups light inputs distance last
-  unfolding readsTables unread valuesBy valueIf spotOf fresnelOf
+  unfolding readsTables unread valuesBy valueIf spotValue fresnelValue
   values-unread lookups light inputs distance last h =
       let s = neither _ (light .spotlight) h in
       let t = neither _ _ (s .0) in
@@ -109,7 +111,7 @@ module _ (tables : List ℕ) where
   -- the three steps, for a light that reads tables
   pub read-in-steps : (lookups : Lookups) (frame : Frame) (toward : Toward) (light : Light) (last : Bool)
       → light .number .0 < 8
-      → valuesFrom lookups light (readAll tables (readingsOf lookups frame toward light last) (readOf tables (distanceReading light (frame .view)))) last
+      → valuesFrom lookups light (readAll tables (readingsOf lookups frame toward light last) (readValue tables (distanceReading light (frame .view)))) last
       ≡ valuesOf tables lookups frame toward light last
   unfolding readingsOf valuesOf
   read-in-steps lookups frame toward light last h =
@@ -119,16 +121,16 @@ module _ (tables : List ℕ) where
   pub read-none : (lookups : Lookups) (frame : Frame) (toward : Toward) (light : Light) (last : Bool)
       → light .number .0 < 8
       → readsTables lookups light ≡ false
-      → unread (readOf tables (distanceReading light (frame .view))) ≡ valuesOf tables lookups frame toward light last
+      → unread (readValue tables (distanceReading light (frame .view))) ≡ valuesOf tables lookups frame toward light last
   unfolding valuesOf
   read-none lookups frame toward light last h r =
       rw (distance-read light (frame .view) h) (values-unread lookups light _ _ last r)
 
 -- a light's distance is read where the length of the way to it says
-pub distance-by : (light : Light) (view : List Float) → distanceReadingBy (light .distance) (light .number .0) (wayTo light view .length) ≡ distanceReading light view
+pub distance-by : (light : Light) (view : List Float) → distanceReadingBy (light .distance) (light .number) (wayTo light view .length) ≡ distanceReading light view
 unfolding distanceReading distanceReadingBy
 distance-by light view = go (light .distance) refl
   where
-    go : (d : Distance) → light .distance ≡ d → distanceReadingBy (light .distance) (light .number .0) (wayTo light view .length) ≡ distanceReadingBy (light .distance) (light .number .0) (awayOf view (light .position))
+    go : (d : Distance) → light .distance ≡ d → distanceReadingBy (light .distance) (light .number) (wayTo light view .length) ≡ distanceReadingBy (light .distance) (light .number) (awayOf view (light .position))
     go Without e = rw e refl
-    go (Scaled bias scale) e = ap (λ (x : Float). distanceReadingBy (light .distance) (light .number .0) x) (away-is light view bias scale e)
+    go (Scaled bias scale) e = ap (λ (x : Float). distanceReadingBy (light .distance) (light .number) x) (away-is light view bias scale e)

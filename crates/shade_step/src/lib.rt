@@ -4,7 +4,7 @@ ghost use Prim.Native.Nat.{_<_};
 ghost use lib.ListN.{length};
 ghost use Rattle.sources.specs.Sources.{given};
 ghost use Rattle.shade_distance.specs.Distance.{distanceReadingBy};
-ghost use Rattle.table_reading.specs.Entries.{readOf};
+ghost use Rattle.table_reading.specs.Entries.{readValue};
 ghost use Rattle.shade_step.specs.Lookups.{distanceReading, valuesOf};
 ghost use Rattle.shade_step.specs.Step.{stepOf};
 use lighting::Light;
@@ -18,7 +18,7 @@ use shade_types::Values;
 // What a light that is so far away reads from its distance table.
 fn distance_of(tables: &[u32], bytes: &[u8], light: Light, away: f32) -> f32
     requires { ⌜ length (given (now tables) (now bytes)) ≡ 12288 ⌝ }
-    ensures { λ r. ⌜ r ≡ readOf (given (now (tables .entry)) (now (bytes .entry))) (distanceReadingBy (light .distance) (light .number .0) away) ⌝ }
+    ensures { λ r. ⌜ r ≡ readValue (given (now (tables .entry)) (now (bytes .entry))) (distanceReadingBy (light .distance) (light .number) away) ⌝ }
 {
     table_reading::read(tables, bytes, shade_distance::distance_reading(light, away))
 }
@@ -34,7 +34,7 @@ fn values_of(
     light: Light,
     last: bool,
 ) -> Values
-    requires { ⌜ (length (given (now tables) (now bytes)) ≡ 12288) × (light .number .0 < 8) × (distance ≡ readOf (given (now tables) (now bytes)) (distanceReading light (frame .view))) ⌝ }
+    requires { ⌜ (length (given (now tables) (now bytes)) ≡ 12288) × (light .number .0 < 8) × (distance ≡ readValue (given (now tables) (now bytes)) (distanceReading light (frame .view))) ⌝ }
     ensures { λ r. ⌜ r ≡ valuesOf (given (now (tables .entry)) (now (bytes .entry))) lookups frame toward light last ⌝ }
 {
     let readings = shade_lookups::readings_of(lookups, frame, toward, light, last);

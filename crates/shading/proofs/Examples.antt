@@ -13,7 +13,7 @@ use Rattle.binary32.specs.Order.{magnitudeOf, before, maxOf, minOf, clampOf}
 use Rattle.binary32.specs.Floor.{floorOf}
 use Rattle.binary32.specs.Places.{unsignedPlaceOf, signedPlaceOf}
 use Rattle.binary32.specs.Quantize.{quantizedOf, channelOf}
-use Rattle.tables.specs.Lookup.{interpolated, lookupOf}
+use Rattle.tables.specs.Lookup.{interpolated, tableLookup}
 use Rattle.vectors.specs.Vectors.{at, plusOf, minusOf, timesOf, overOf, dotOf, crossOf, normalizedOf, axisOf, turnOf, plusTwice, rotateOf}
 use Rattle.lighting.specs.declared.Light.{Light}
 use Rattle.lighting.specs.declared.Lighting.{Lighting}
@@ -27,12 +27,12 @@ use Rattle.lighting.specs.declared.Distance.the-variants.{Without, Scaled}
 use Rattle.block.specs.Answers.{bumpUnit, shadowUnit}
 use Rattle.shade_surface.specs.Surface.{lengthOf, quaternionOver, unitQuaternion, tangentOf, unitIf, frameOf}
 use Rattle.shade_bump.specs.Bump.{perturbed, rebuiltZ, rebuilt, surfaceNormal, surfaceTangent}
-use Rattle.shade_shadow.specs.Shadow.{inverted, shadowOf}
+use Rattle.shade_shadow.specs.Shadow.{inverted, shadowTexel}
 use Rattle.shade_light.specs.Toward.{lightVector, halfOf, towardOf, offsetOf, awayOf}
 use Rattle.shade_inputs.specs.Inputs.{alongTangent, inputsBy, inputsOf}
 use Rattle.shade_facing.specs.Facing.{facingOf, highlightsOf, factorBy, factorOf}
 use Rattle.shade_values.specs.Values.{present}
-use Rattle.shade_step.specs.Lookups.{valueOf, valueIf, spotOf, fresnelOf, distanceBy, distanceOf, valuesBy, valuesOf}
+use Rattle.shade_step.specs.Lookups.{valueOf, valueIf, spotValue, fresnelValue, distanceBy, distanceValue, valuesBy, valuesOf}
 use Rattle.shade_distance.specs.Distance.{distancePlace}
 use Rattle.shade_places.specs.Places.{placeOf, inputOf}
 use Rattle.shade_shadow.specs.Shadow.{primaryOf, secondaryOf, alphaOf}
@@ -40,7 +40,7 @@ use Rattle.shade_terms.specs.Terms.{diffuseOf, timesIf, specular0Of, reflectedO
 use Rattle.shade_sums.specs.Sums.{shadowFor, addedOf, summedOf, withLightBy, withLight}
 use Rattle.shade_channels.specs.Channels.{shadowedAlpha, finishOf}
 use Rattle.shade_step.specs.Step.{stepOf}
-use Rattle.lighting_parts.specs.Parts.{lookupsOf, settingsOf, lightingFrame, lightingShadow, finishedOf}
+use Rattle.lighting_parts.specs.Parts.{lightingLookups, lightingSettings, lightingFrame, lightingShadow, finishedOf}
 use Rattle.light_sums.specs.Sums.{sumsBy}
 use Rattle.shading.specs.Shade.{sumsOf, shadeBy, shadeOf, coloursOf}
 
@@ -139,7 +139,7 @@ record Cases : Type 0 where
   at-last : at (sumsOf [] two-lamps (frameOf Flat [] 0 false (float0 ∷ none) none) (float1 ∷ white) 2 .diffuse) 3 ≡ float0
 
 cases : Cases
-unfolding neg add sub mul div lt eq isNan ofInt ofBits toUnsigned toSigned rootOf magnitudeOf before maxOf minOf clampOf floorOf unsignedPlaceOf signedPlaceOf quantizedOf channelOf interpolated lookupOf plusOf minusOf timesOf overOf dotOf crossOf normalizedOf axisOf turnOf plusTwice rotateOf bumpUnit shadowUnit lengthOf quaternionOver unitQuaternion inverted shadowOf perturbed rebuiltZ rebuilt surfaceNormal surfaceTangent tangentOf unitIf frameOf lightVector halfOf towardOf offsetOf awayOf alongTangent inputsBy inputsOf facingOf highlightsOf factorBy factorOf placeOf inputOf valueOf valueIf spotOf fresnelOf distancePlace distanceBy distanceOf valuesBy valuesOf diffuseOf timesIf specular0Of reflectedOf specular1Of specularBy specularOf shadowFor addedOf summedOf withLightBy withLight shadowedAlpha finishOf present primaryOf secondaryOf alphaOf lookupsOf settingsOf stepOf sumsBy sumsOf lightingFrame lightingShadow finishedOf shadeBy shadeOf coloursOf
+unfolding neg add sub mul div lt eq isNan ofInt ofBits toUnsigned toSigned rootOf magnitudeOf before maxOf minOf clampOf floorOf unsignedPlaceOf signedPlaceOf quantizedOf channelOf interpolated tableLookup plusOf minusOf timesOf overOf dotOf crossOf normalizedOf axisOf turnOf plusTwice rotateOf bumpUnit shadowUnit lengthOf quaternionOver unitQuaternion inverted shadowTexel perturbed rebuiltZ rebuilt surfaceNormal surfaceTangent tangentOf unitIf frameOf lightVector halfOf towardOf offsetOf awayOf alongTangent inputsBy inputsOf facingOf highlightsOf factorBy factorOf placeOf inputOf valueOf valueIf spotValue fresnelValue distancePlace distanceBy distanceValue valuesBy valuesOf diffuseOf timesIf specular0Of reflectedOf specular1Of specularBy specularOf shadowFor addedOf summedOf withLightBy withLight shadowedAlpha finishOf present primaryOf secondaryOf alphaOf lightingLookups lightingSettings stepOf sumsBy sumsOf lightingFrame lightingShadow finishedOf shadeBy shadeOf coloursOf
 cases =
     record {
       white-lamp = refl;

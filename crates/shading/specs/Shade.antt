@@ -6,12 +6,12 @@ use Rattle.binary32.specs.Quantize.{channelOf}
 use Rattle.lighting.specs.declared.Lighting.{Lighting}
 use Rattle.shade_types.specs.declared.Frame.{Frame}
 use Rattle.shade_types.specs.declared.Sums.{Sums}
-use Rattle.lighting_parts.specs.Parts.{lookupsOf, settingsOf, lightingFrame, lightingShadow, finishedOf}
+use Rattle.lighting_parts.specs.Parts.{lightingLookups, lightingSettings, lightingFrame, lightingShadow, finishedOf}
 use Rattle.light_sums.specs.Sums.{sumsBy}
 
 unfoldable pub sumsOf : List ℕ → Lighting → Frame → List Float → ℕ → Sums
 sumsOf tables l frame shadow k =
-    sumsBy tables (lookupsOf l) frame (settingsOf l shadow) (l .lights) (l .«light_count») k
+    sumsBy tables (lightingLookups l) frame (lightingSettings l shadow) (l .lights) (l .«light_count») k
 
 unfoldable pub shadeBy : List ℕ → Lighting → Frame → List Float → List ℕ
 shadeBy tables l frame shadow = finishedOf l (sumsOf tables l frame shadow (l .«light_count»)) shadow

@@ -17,7 +17,7 @@ use Rattle.shade_types.specs.declared.Settings.{Settings}
 use Rattle.shade_sums.specs.Sums.{addedOf, summedOf, withLightBy, withLight}
 use Rattle.shade_channels.specs.Channels.{shadowedAlpha, finishOf}
 use Rattle.shade_step.specs.Step.{stepOf}
-use Rattle.lighting_parts.specs.Parts.{settingsOf, finishedOf}
+use Rattle.lighting_parts.specs.Parts.{lightingSettings, finishedOf}
 use Rattle.light_sums.specs.Sums.{sumsBy}
 use Rattle.shading.specs.Shade.{sumsOf, shadeBy, shadeOf}
 
@@ -40,12 +40,12 @@ module _ (tables : List ℕ) (lookups : Lookups) (frame : Frame) (settings : Set
   specular-alpha h zero = refl
   specular-alpha h (suc k) = simp (h, neither) (specular-alpha h k)
 
-primary-clear : (l : Lighting) (shadow : List Float) → l .«fresnel_primary» ≡ false → settingsOf l shadow .«fresnel_primary» ≡ false
-unfolding settingsOf
+primary-clear : (l : Lighting) (shadow : List Float) → l .«fresnel_primary» ≡ false → lightingSettings l shadow .«fresnel_primary» ≡ false
+unfolding lightingSettings
 primary-clear l shadow h = simp (h, neither)
 
-secondary-clear : (l : Lighting) (shadow : List Float) → l .«fresnel_secondary» ≡ false → settingsOf l shadow .«fresnel_secondary» ≡ false
-unfolding settingsOf
+secondary-clear : (l : Lighting) (shadow : List Float) → l .«fresnel_secondary» ≡ false → lightingSettings l shadow .«fresnel_secondary» ≡ false
+unfolding lightingSettings
 secondary-clear l shadow h = simp (h, neither)
 
 module _ (l : Lighting) (tables : List ℕ) (quaternion view : List Float) (texels : List (List Float)) where

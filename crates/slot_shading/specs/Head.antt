@@ -3,7 +3,7 @@ use Prim.Native.Nat.{ℕ}
 use lib.ListN.{replicate}
 use Rattle.lighting.specs.declared.Lighting.{Lighting}
 use Rattle.lighting.specs.Blank.{blankLight}
-use Rattle.block.specs.Reading.{lightingWith}
+use Rattle.block.specs.Reading.{blockLightingWith}
 
 unfoldable pub headOf : (ℕ → ℕ) → Lighting
-headOf w = lightingWith w (replicate 8 blankLight)
+headOf w = blockLightingWith w (replicate 8 blankLight)

@@ -15,8 +15,8 @@ use Rattle.block.specs.Formed.{from, slotAt, wellFormed}
 use Rattle.block.specs.FormedLaws.{formed-parts}
 use Rattle.block.specs.WordLaws.{bump-unit-small, shadow-unit-small}
 use Rattle.block.specs.Answers.{bumpUnit, shadowUnit}
-use Rattle.block.specs.Reading.{lightOf, slotLight, lightsOf, lightingOf}
-use Rattle.lighting_parts.specs.Parts.{lookupsOf, settingsOf, lightingFrame, lightingShadow, finishedOf}
+use Rattle.block.specs.Reading.{blockLight, blockSlotLight, blockLights, blockLighting}
+use Rattle.lighting_parts.specs.Parts.{lightingLookups, lightingSettings, lightingFrame, lightingShadow, finishedOf}
 use Rattle.light_sums.specs.Sums.{sumsBy}
 use Rattle.shading.specs.Shade.{sumsOf, shadeBy, shadeOf}
 use Rattle.slot_shading.specs.Head.{headOf}
@@ -25,14 +25,14 @@ module _ (w : ℕ → ℕ) where
   -- shading from the head, with the lights read from their slots
   pub head-shades : (tables : List ℕ) (quaternion view : List Float) (texels : List (List Float))
       → finishedOf (headOf w)
-      (sumsBy tables (lookupsOf (headOf w)) (lightingFrame (headOf w) quaternion view texels) (settingsOf (headOf w) (lightingShadow (headOf w) texels)) (lightsOf w) (headOf w .«light_count») (headOf w .«light_count»))
+      (sumsBy tables (lightingLookups (headOf w)) (lightingFrame (headOf w) quaternion view texels) (lightingSettings (headOf w) (lightingShadow (headOf w) texels)) (blockLights w) (headOf w .«light_count») (headOf w .«light_count»))
       (lightingShadow (headOf w) texels)
-      ≡ shadeOf (lightingOf w) tables quaternion view texels
-  unfolding headOf lightingOf lookupsOf settingsOf lightingFrame lightingShadow finishedOf sumsOf shadeBy shadeOf
+      ≡ shadeOf (blockLighting w) tables quaternion view texels
+  unfolding headOf blockLighting lightingLookups lightingSettings lightingFrame lightingShadow finishedOf sumsOf shadeBy shadeOf
   head-shades tables quaternion view texels = refl
 
-  slot : (s : ℕ) → s < 8 → getD (lightsOf w) s noLight ≡ slotLight w s
-  unfolding lightsOf
+  slot : (s : ℕ) → s < 8 → getD (blockLights w) s noLight ≡ blockSlotLight w s
+  unfolding blockLights
   slot zero h = refl
   slot (suc zero) h = refl
   slot (suc (suc zero)) h = refl
@@ -44,13 +44,13 @@ module _ (w : ℕ → ℕ) where
   slot (suc (suc (suc (suc (suc (suc (suc (suc s)))))))) h = absurd (omega arith)
 
   -- the light of a lit slot
-  pub lit-light : (s : ℕ) → s < w 1 → w 1 ≤ 8 → getD (lightsOf w) s noLight ≡ lightOf (from w (slotAt s))
-  unfolding slotLight
-  lit-light s h few = slot s (omega arith) ∙ ap (λ (b : Bool). cond b (lightOf (from w (slotAt s))) blankLight) (lt-ltb s (w 1) h)
+  pub lit-light : (s : ℕ) → s < w 1 → w 1 ≤ 8 → getD (blockLights w) s noLight ≡ blockLight (from w (slotAt s))
+  unfolding blockSlotLight
+  lit-light s h few = slot s (omega arith) ∙ ap (λ (b : Bool). cond b (blockLight (from w (slotAt s))) blankLight) (lt-ltb s (w 1) h)
 
   -- its number is one of eight
-  pub lit-number : wellFormed w ≡ true → (s : ℕ) → s < w 1 → lightOf (from w (slotAt s)) .number .0 < 8
-  unfolding lightOf
+  pub lit-number : wellFormed w ≡ true → (s : ℕ) → s < w 1 → blockLight (from w (slotAt s)) .number .0 < 8
+  unfolding blockLight
   lit-number f s h = ltb-true (from w (slotAt s) 33) 8 (formed-parts w f .shape .number s h)
 
   -- both texture units are 0 to 3

@@ -15,7 +15,7 @@ ghost use lib.ListN.{length};
 ghost use Rattle.sources.specs.Sources.{given};
 ghost use Rattle.fragments.specs.Fragment.{quaternionOf, viewOf, texelsOf};
 ghost use Rattle.block.specs.Formed.{words, wellFormed};
-ghost use Rattle.block.specs.Reading.{lightsOf, lightingOf};
+ghost use Rattle.block.specs.Reading.{blockLights, blockLighting};
 ghost use Rattle.block.specs.Answers.{bumpUnit, shadowUnit, inRange, nanFree};
 ghost use Rattle.slot_shading.specs.Head.{headOf};
 ghost use Rattle.light_sums.specs.Sums.{sumsBy};
@@ -82,7 +82,7 @@ fn sum_slots(
     requires { ⌜ (length (given (now block) (now «block_bytes»)) ≡ 328) × (length (given (now tables) (now «table_bytes»)) ≡ 12288) ⌝ }
     requires { ⌜ (wellFormed (words (given (now block) (now «block_bytes»))) ≡ true) × (count ≡ words (given (now block) (now «block_bytes»)) 1) ⌝ }
     requires { ⌜ (plain ≡ true → nanFree (words (given (now block) (now «block_bytes»))) ≡ true) ⌝ }
-    ensures { λ r. ⌜ r ≡ sumsBy (given (now (tables .entry)) (now («table_bytes» .entry))) lookups frame settings (lightsOf (words (given (now (block .entry)) (now («block_bytes» .entry))))) count count ⌝ }
+    ensures { λ r. ⌜ r ≡ sumsBy (given (now (tables .entry)) (now («table_bytes» .entry))) lookups frame settings (blockLights (words (given (now (block .entry)) (now («block_bytes» .entry))))) count count ⌝ }
 {
     let mut sums = Sums {
         diffuse: [0.0, 0.0, 0.0, 1.0],
@@ -120,7 +120,7 @@ pub fn shade_lit(
     requires { ⌜ (length (given (now block) (now «block_bytes»)) ≡ 328) × (length (given (now tables) (now «table_bytes»)) ≡ 12288) × (length (given (now fragment) (now «fragment_bytes»)) ≡ 23) ⌝ }
     requires { ⌜ wellFormed (words (given (now block) (now «block_bytes»))) ≡ true ⌝ }
     requires { ⌜ (plain ≡ true → nanFree (words (given (now block) (now «block_bytes»))) ≡ true) ⌝ }
-    ensures { λ r. ⌜ r ≡ shadeOf (lightingOf (words (given (now (block .entry)) (now («block_bytes» .entry))))) (given (now (tables .entry)) (now («table_bytes» .entry))) (quaternionOf (given (now (fragment .entry)) (now («fragment_bytes» .entry)))) (viewOf (given (now (fragment .entry)) (now («fragment_bytes» .entry)))) (texelsOf (given (now (fragment .entry)) (now («fragment_bytes» .entry)))) ⌝ }
+    ensures { λ r. ⌜ r ≡ shadeOf (blockLighting (words (given (now (block .entry)) (now («block_bytes» .entry))))) (given (now (tables .entry)) (now («table_bytes» .entry))) (quaternionOf (given (now (fragment .entry)) (now («fragment_bytes» .entry)))) (viewOf (given (now (fragment .entry)) (now («fragment_bytes» .entry)))) (texelsOf (given (now (fragment .entry)) (now («fragment_bytes» .entry)))) ⌝ }
 {
     let head = head_of(block, block_bytes, plain);
     let frame = frame_of(head, fragment, fragment_bytes);

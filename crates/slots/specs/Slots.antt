@@ -9,6 +9,6 @@ use Rattle.registers.specs.Registers.{regLightCount, regLightSlots, registerOf,
 unfoldable pub countOf : List ℕ → ℕ
 countOf f = bitsOf (registerOf f regLightCount) 0 3 + 1
 
--- which light a slot holds: bits 4s to 4s + 2 of 1D9. A slot goes in and a light number comes out, and no definition takes one for the other.
-unfoldable pub numberOf : List ℕ → Slot → LightNumber
-numberOf f slot = record { 0 = bitsOf (registerOf f regLightSlots) (slot .0 * 4) 3 }
+-- which light a slot holds: bits 4s to 4s + 2 of 1D9. A slot goes in and a light number comes out.
+unfoldable pub lightNumberOf : List ℕ → Slot → LightNumber
+lightNumberOf f slot = record { 0 = bitsOf (registerOf f regLightSlots) (slot .0 * 4) 3 }

@@ -5,7 +5,7 @@ use registers::bits;
 use registers::register;
 ghost use mathlib.Core.Path.{_≡_};
 ghost use Prim.Native.Nat.{_<_};
-ghost use Rattle.slots.specs.Slots.{countOf, numberOf};
+ghost use Rattle.slots.specs.Slots.{countOf, lightNumberOf};
 
 const REG_LIGHT_COUNT: usize = 0x1C2;
 
@@ -20,7 +20,7 @@ pub fn light_count(file: &[u32]) -> usize
 // Which light a slot holds.
 pub fn light_number(file: &[u32], slot: Slot) -> LightNumber
     requires { ⌜ slot .0 < 8 ⌝ }
-    ensures { λ r. ⌜ r ≡ numberOf (now (file .entry)) slot ⌝ }
+    ensures { λ r. ⌜ r ≡ lightNumberOf (now (file .entry)) slot ⌝ }
 {
     LightNumber(bits(register(file, REG_LIGHT_SLOTS), slot.0 as u32 * 4, 3) as usize)
 }

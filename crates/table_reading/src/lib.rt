@@ -2,8 +2,8 @@
 ghost use mathlib.Core.Path.{_≡_};
 ghost use lib.ListN.{length};
 ghost use Rattle.sources.specs.Sources.{given};
-ghost use Rattle.tables.specs.Lookup.{lookupOf};
-ghost use Rattle.table_reading.specs.Entries.{readOf, readAll};
+ghost use Rattle.tables.specs.Lookup.{tableLookup};
+ghost use Rattle.table_reading.specs.Entries.{readValue, readAll};
 use shade_types::Reading;
 use shade_types::Readings;
 use shade_types::Values;
@@ -11,7 +11,7 @@ use shade_types::Values;
 // What a table gives at an entry.
 fn fetch(tables: &[u32], bytes: &[u8], table: u32, entry: u8, delta: f32) -> f32
     requires { ⌜ length (given (now tables) (now bytes)) ≡ 12288 ⌝ }
-    ensures { λ r. ⌜ r ≡ lookupOf (given (now (tables .entry)) (now (bytes .entry))) table entry delta ⌝ }
+    ensures { λ r. ⌜ r ≡ tableLookup (given (now (tables .entry)) (now (bytes .entry))) table entry delta ⌝ }
 {
     let at = 2 * (256 * table as usize + entry as usize);
     if at < 12288 {
@@ -25,7 +25,7 @@ fn fetch(tables: &[u32], bytes: &[u8], table: u32, entry: u8, delta: f32) -> f32
 
 pub fn read(tables: &[u32], bytes: &[u8], reading: Reading) -> f32
     requires { ⌜ length (given (now tables) (now bytes)) ≡ 12288 ⌝ }
-    ensures { λ r. ⌜ r ≡ readOf (given (now (tables .entry)) (now (bytes .entry))) reading ⌝ }
+    ensures { λ r. ⌜ r ≡ readValue (given (now (tables .entry)) (now (bytes .entry))) reading ⌝ }
 {
     match reading {
         Reading::Unread => 1.0,

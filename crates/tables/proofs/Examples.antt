@@ -10,7 +10,7 @@ use Rattle.tables.specs.Upload.{isData, index, moved, stored, place, put
 use Rattle.tables.specs.Generation.{last}
 use Rattle.tables.specs.Write.{Wrote, wrote, upload, writeIf, write}
 use Rattle.tables.specs.Restore.{restored, restoreIf, restore, saved, saveIf, save}
-use Rattle.tables.specs.Lookup.{interpolated, lookupOf}
+use Rattle.tables.specs.Lookup.{interpolated, tableLookup}
 
 abbrev zeros : ℕ → List ℕ
 zeros n = replicate n 0
@@ -101,10 +101,10 @@ half : Float
 half = ofBits binary32 0x3F000000
 
 record Looked : Type 0 where
-  between : toBits binary32 (lookupOf (set (set (zeros 12288) 516 0x3F800000) 517 0x3F000000) 1 2 half) ≡ 0x3FA00000
-  pattern : lookupOf (set (zeros 12288) 1 0xFFC00001) 0 0 half ≡ nan
-  past : toBits binary32 (lookupOf [] 24 0 half) ≡ 0
+  between : toBits binary32 (tableLookup (set (set (zeros 12288) 516 0x3F800000) 517 0x3F000000) 1 2 half) ≡ 0x3FA00000
+  pattern : tableLookup (set (zeros 12288) 1 0xFFC00001) 0 0 half ≡ nan
+  past : toBits binary32 (tableLookup [] 24 0 half) ≡ 0
 
 looked : Looked
-unfolding half lookupOf interpolated ofBits ofFields add mul sum round units odd span climb size toBits
+unfolding half tableLookup interpolated ofBits ofFields add mul sum round units odd span climb size toBits
 looked = record { between = refl; pattern = refl; past = refl }

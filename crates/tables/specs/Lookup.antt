@@ -11,6 +11,6 @@ unfoldable pub interpolated : ℕ → ℕ → Float → Float
 interpolated value step delta = add binary32 (floatOf value) (mul binary32 (floatOf step) delta)
 
 -- in the tables t, at a table and an entry; a word that t does not have counts as 0
-unfoldable pub lookupOf : List ℕ → ℕ → ℕ → Float → Float
-lookupOf t table entry delta =
+unfoldable pub tableLookup : List ℕ → ℕ → ℕ → Float → Float
+tableLookup t table entry delta =
     interpolated (getD t (entryPlace table entry) 0) (getD t (entryPlace table entry + 1) 0) delta

@@ -3,7 +3,7 @@
 ghost use mathlib.Core.Path.{_≡_};
 ghost use Rattle.tables.specs.Write.{wrote, write as writeOf};
 ghost use Rattle.tables.specs.Restore.{restored, restore as restoreOf, saved as savedAs, save as saveOf};
-ghost use Rattle.tables.specs.Lookup.{lookupOf};
+ghost use Rattle.tables.specs.Lookup.{tableLookup};
 use tables::Written;
 
 #[no_mangle]
@@ -47,7 +47,7 @@ pub extern "C" fn tables_save(entries: &[u32], output: &mut [u32]) -> u32
 
 #[no_mangle]
 pub extern "C" fn tables_lookup(entries: &[u32], table: u32, entry: u8, delta: f32) -> f32
-    ensures { λ r. ⌜ r ≡ lookupOf (now (entries .entry)) table entry delta ⌝ }
+    ensures { λ r. ⌜ r ≡ tableLookup (now (entries .entry)) table entry delta ⌝ }
 {
     table_lookup::lookup(entries, table, entry, delta)
 }

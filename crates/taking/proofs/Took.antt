@@ -15,16 +15,16 @@ use Rattle.refusals.specs.declared.Outcome.the-variants.{Done, Refused}
 use Rattle.refusals.specs.declared.Refusal.{Refusal}
 use Rattle.lighting.specs.declared.OptionalLighting.{OptionalLighting}
 use Rattle.block.specs.Words.{packed}
-use Rattle.block.specs.Answers.{Packing, packing, accepted, lightingRefusal, packRefusal, packedReading, packs as packsOf}
+use Rattle.block.specs.Answers.{Packing, packing, accepted, lightingRefusal, packRefusal, packedReading, packs}
 use Rattle.tables.specs.Restore.{Saved, saved, saveRefusal, save}
 use Rattle.tables.specs.RestoreLaws.{save-data}
 use Rattle.unit.specs.HandOver.{packable}
 use Rattle.unit.specs.HandOverLaws.{refusal-not-zero}
-use Rattle.taking.specs.Taking.{packs, takes, took}
+use Rattle.taking.specs.Taking.{packsReading, takes, took}
 
 -- `pack` on a lighting that is on
-pub pack-on : (d : OptionalLighting) (b : List ℕ) → d .on ≡ true → length b ≡ 328 → packsOf (d .lighting) b ≡ packs d b
-unfolding packsOf packRefusal lightingRefusal blockRefusal packs packable packedReading
+pub pack-on : (d : OptionalLighting) (b : List ℕ) → d .on ≡ true → length b ≡ 328 → packs (d .lighting) b ≡ packsReading d b
+unfolding packs packRefusal lightingRefusal blockRefusal packsReading packable packedReading
 pack-on d b e n = rw (e, eq-eqb (length b) 328 n) (go (accepted (d .lighting)))
   where
     go : (x : Bool) → packing (cond x 0 7) (cond (eqb (cond x 0 7) 0) (packed (d .lighting)) b) ≡ cond x (packing 0 (packed (d .lighting))) (packing 7 b)
@@ -32,16 +32,16 @@ pack-on d b e n = rw (e, eq-eqb (length b) 328 n) (go (accepted (d .lighting)))
     go false = refl
 
 module _ (d : OptionalLighting) (t : List ℕ) (g : ℕ) (b ct : List ℕ) (cg : ℕ) (x : List ℕ) where
-  pub refused-takes : {o : Outcome} {k : Refusal} → o ≡ Refused k → packing (outcomeNumber o) x ≡ packs d b → took (outcomeNumber o) x ct ≡ takes d t g b ct cg
-  unfolding packs takes
+  pub refused-takes : {o : Outcome} {k : Refusal} → o ≡ Refused k → packing (outcomeNumber o) x ≡ packsReading d b → took (outcomeNumber o) x ct ≡ takes d t g b ct cg
+  unfolding packsReading takes
   refused-takes {o} {k} h e = rw h (go (packable d) (rw h at e))
     where
       go : (p : Bool) → packing (numberOf k) x ≡ cond p (packing 0 (packedReading d)) (packing 7 b) → took (numberOf k) x ct ≡ cond p (took 0 (packedReading d) (cond (eqb g cg) ct t)) (took 7 b ct)
       go true q = absurd (refusal-not-zero k (ap (λ (w : Packing). w .number) q))
       go false q = ap (λ (w : Packing). took (w .number) (w .block) ct) q
 
-  done-takes : {o : Outcome} → o ≡ Done → packing (outcomeNumber o) x ≡ packs d b → took 0 x (cond (eqb g cg) ct t) ≡ takes d t g b ct cg
-  unfolding packs takes
+  done-takes : {o : Outcome} → o ≡ Done → packing (outcomeNumber o) x ≡ packsReading d b → took 0 x (cond (eqb g cg) ct t) ≡ takes d t g b ct cg
+  unfolding packsReading takes
   done-takes {o} h e = go (packable d) (rw h at e)
     where
       go : (p : Bool) → packing 0 x ≡ cond p (packing 0 (packedReading d)) (packing 7 b) → took 0 x (cond (eqb g cg) ct t) ≡ cond p (took 0 (packedReading d) (cond (eqb g cg) ct t)) (took 7 b ct)
@@ -49,11 +49,11 @@ module _ (d : OptionalLighting) (t : List ℕ) (g : ℕ) (b ct : List ℕ) (cg :
       go false q = absurd (omega (arith, ap (λ (w : Packing). w .number) q))
 
   -- at equal generations the copy's tables stay
-  pub same-takes : {o : Outcome} → o ≡ Done → g ≡ cg → packing (outcomeNumber o) x ≡ packs d b → took 0 x ct ≡ takes d t g b ct cg
+  pub same-takes : {o : Outcome} → o ≡ Done → g ≡ cg → packing (outcomeNumber o) x ≡ packsReading d b → took 0 x ct ≡ takes d t g b ct cg
   same-takes h q e = rw (eq-eqb g cg q) at (done-takes h e)
 
   -- else they are the unit's
-  pub other-takes : {o : Outcome} {y : List ℕ} (k : ℕ) → o ≡ Done → (g ≡ cg → ⊥) → length t ≡ 12288 → length ct ≡ 12288 → packing (outcomeNumber o) x ≡ packs d b → saved k y ≡ save t ct → took 0 x y ≡ takes d t g b ct cg
+  pub other-takes : {o : Outcome} {y : List ℕ} (k : ℕ) → o ≡ Done → (g ≡ cg → ⊥) → length t ≡ 12288 → length ct ≡ 12288 → packing (outcomeNumber o) x ≡ packsReading d b → saved k y ≡ save t ct → took 0 x y ≡ takes d t g b ct cg
   unfolding tablesRefusal savedRefusal
   other-takes {o} {y} k h q n m e s =
       let z : saveRefusal (length t) (length ct) ≡ 0 = rw (n, m) refl in

@@ -8,8 +8,8 @@ use Rattle.block.specs.Answers.{Packing, packing, packedReading}
 use Rattle.unit.specs.HandOver.{packable}
 
 -- packing into the block b: 0 or 7, and the block afterwards
-unfoldable pub packs : OptionalLighting → List ℕ → Packing
-packs d b = cond (packable d) (packing 0 (packedReading d)) (packing 7 b)
+unfoldable pub packsReading : OptionalLighting → List ℕ → Packing
+packsReading d b = cond (packable d) (packing 0 (packedReading d)) (packing 7 b)
 
 -- 0 or 7, and the copy's block and tables afterwards
 pub record Took : Type 0 where

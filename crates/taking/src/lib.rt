@@ -7,7 +7,7 @@ ghost use mathlib.Core.Path.{_≡_};
 ghost use lib.ListN.{length, replicate};
 ghost use Rattle.refusals.specs.Numbers.{outcomeNumber};
 ghost use Rattle.block.specs.Answers.{packing};
-ghost use Rattle.taking.specs.Taking.{packs, took, takes};
+ghost use Rattle.taking.specs.Taking.{packsReading, took, takes};
 
 fn clear(words: &mut [u32])
     ensures { λ _. ⌜ now (words .exit) ≡ replicate (length (now (words .entry))) 0 ⌝ }
@@ -22,7 +22,7 @@ fn clear(words: &mut [u32])
 // The block of a lighting, all zero where it is off. A lighting that can't be packed leaves the block.
 fn pack_reading(decoded: OptionalLighting, block: &mut [u32]) -> Outcome
     requires { ⌜ length (now block) ≡ 328 ⌝ }
-    ensures { λ r. ⌜ packing (outcomeNumber r) (now (block .exit)) ≡ packs decoded (now (block .entry)) ⌝ }
+    ensures { λ r. ⌜ packing (outcomeNumber r) (now (block .exit)) ≡ packsReading decoded (now (block .entry)) ⌝ }
 {
     if decoded.on {
         return pack(decoded.lighting, block);

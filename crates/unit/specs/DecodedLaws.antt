@@ -26,12 +26,13 @@ use Rattle.lighting.specs.declared.OptionalLighting.{OptionalLighting}
 use Rattle.lights.specs.Claims.{LightFits, DistanceFits}
 use Rattle.lookups.specs.Tables.{scaleOf}
 use Rattle.register_lighting.specs.Lighting.{lightingOf}
-use Rattle.decoding.specs.Decode.{lightingOn, off, decoded}
+use Rattle.lighting.specs.Blank.{off}
+use Rattle.decoding.specs.Decode.{lightingOn, decoded}
 use Rattle.decoding.specs.Claims.{IsScale, LookupLimits, OptionalLookupLimits, BumpLimits, ShadowLimits, Limits}
 use Rattle.decoding.specs.LimitLaws.{scale-each, scale-fits, lighting-limits}
 use Rattle.block.specs.Words.{noLight, lightAt, packed}
 use Rattle.block.specs.Formed.{words, every, zeros, allZero, scaleFormed}
-use Rattle.block.specs.Reading.{readingOf}
+use Rattle.block.specs.Reading.{blockReading}
 use Rattle.block.specs.Answers.{bumpUnit, shadowUnit, numbersFit, inRange, accepted, packedReading}
 use Rattle.block.specs.Claims.{Vector as BlockVector, DistanceHeld, LookupHeld, LightHeld, Held, BlankBeyond, lookupFine, optionalLookupFine, fine}
 use Rattle.block.specs.TestLaws.{_also_, every-of}
@@ -141,7 +142,7 @@ module _ (l : Lighting) (h : Limits l) where
       also limits-range)
 
 pub decoded-packable : (f : List ℕ) → packable (decoded f) ≡ true
-unfolding decoded off packable
+unfolding decoded packable
 decoded-packable f = go (lightingOn f)
   where
     go : (b : Bool) → packable (cond b (record { on = true; lighting = lightingOf f }) off) ≡ true
@@ -153,11 +154,11 @@ unfolding allZero zeros every
 zero-block = refl
 
 -- the block of a file's lighting reads as that lighting
-pub decoded-reads : (f : List ℕ) → readingOf (words (packedReading (decoded f))) ≡ decoded f
-unfolding decoded off packedReading readingOf
+pub decoded-reads : (f : List ℕ) → blockReading (words (packedReading (decoded f))) ≡ decoded f
+unfolding decoded packedReading blockReading
 decoded-reads f = go (lightingOn f)
   where
-    go : (b : Bool) → readingOf (words (packedReading (cond b (record { on = true; lighting = lightingOf f }) off))) ≡ cond b (record { on = true; lighting = lightingOf f }) off
+    go : (b : Bool) → blockReading (words (packedReading (cond b (record { on = true; lighting = lightingOf f }) off))) ≡ cond b (record { on = true; lighting = lightingOf f }) off
     go true =
         let h = lighting-limits f in
         packed-reads (lightingOf f) (h .eight) (limits-held (lightingOf f) h) (limits-range (lightingOf f) h) (limits-blank (lightingOf f) h)

@@ -1,7 +1,7 @@
 -- The cache of a fresh unit. Definitions only.
 use mathlib.Core.Bool.{false}
 use lib.ListN.{replicate}
-use Rattle.lighting.specs.Blank.{blankLighting}
+use Rattle.lighting.specs.Blank.{off}
 use Rattle.unit.specs.declared.Cache.{Cache}
 
 -- "Fresh: all zero, cache empty."
@@ -10,5 +10,5 @@ freshCache =
     record {
       filled = false;
       kept = replicate 139 0;
-      decoded = record { on = false; lighting = blankLighting };
+      decoded = off;
     }

@@ -1,6 +1,6 @@
 -- `block_head::lookup_of` meets its contract: each field is the word that the definition reads. Assumes nothing.
 use mathlib.Core.Path.{refl}
-use Rattle.block.specs.Reading.{lookupOf}
+use Rattle.block.specs.Reading.{blockLookup}
 use borrow.Author.Needs.{needs}
 use Rattle.block_head.proofs.lookup_of.Statement.{statement}
 use Rattle.block_head.proofs.lookup_of.Tie as tie
@@ -27,7 +27,7 @@ float-of-requires : tie.Need-float-of-requires
 float-of-requires c κs = search needs
 
 returns : tie.Need-returns
-unfolding lookupOf
+unfolding blockLookup
 returns c = rw (c .before .before .before .word .ensures, c .before .before .word2 .ensures, c .float-of .ensures, c .before .word3 .ensures) refl
 
 pub lookup-of-spec : {M : Type 1} → statement M

@@ -1,6 +1,6 @@
 -- `block_head::lookups_of` meets its contract: each field is what the call that makes it ensures. Assumes nothing.
 use mathlib.Core.Path.{refl}
-use Rattle.block_head.specs.Parts.{lookupsOf}
+use Rattle.block_head.specs.Parts.{headLookups}
 use borrow.Author.Needs.{needs}
 use Rattle.block_head.proofs.lookups_of.Statement.{statement}
 use Rattle.block_head.proofs.lookups_of.Tie as tie
@@ -27,7 +27,7 @@ lookup-of-requires : tie.Need-lookup-of-requires
 lookup-of-requires c κs = search needs
 
 returns : tie.Need-returns
-unfolding lookupsOf
+unfolding headLookups
 returns c = rw (c .before .before .before .before .before .before .optional-lookup-of .ensures, c .before .before .before .before .before .optional-lookup-of2 .ensures, c .before .before .before .before .optional-lookup-of3 .ensures, c .before .before .before .optional-lookup-of4 .ensures, c .before .before .optional-lookup-of5 .ensures, c .before .optional-lookup-of6 .ensures, c .lookup-of .ensures) refl
 
 pub lookups-of-spec : {M : Type 1} → statement M

@@ -2,7 +2,7 @@
 use mathlib.Core.Path.{refl}
 use native.Mathlib.Nat.{add-zero}
 use borrow.Author.Tests.{eq-eqb, ne-eqb}
-use Rattle.block.specs.Reading.{optionalLookupOf}
+use Rattle.block.specs.Reading.{blockOptionalLookup}
 use borrow.Author.Needs.{needs}
 use Rattle.block_head.proofs.optional_lookup_of.Statement.{statement}
 use Rattle.block_head.proofs.optional_lookup_of.Tie as tie
@@ -14,11 +14,11 @@ lookup-of-requires : tie.Need-lookup-of-requires
 lookup-of-requires c κs = search needs
 
 returns : tie.Need-returns
-unfolding optionalLookupOf
+unfolding blockOptionalLookup
 returns c = rw (add-zero (c .before .before .before .before .before .args .at), ← c .before .before .word .ensures, eq-eqb (c .before .before .word .result) 1 (c .before .if1 .taken), c .lookup-of .ensures) refl
 
 returns-2 : tie.Need-returns-2
-unfolding optionalLookupOf
+unfolding blockOptionalLookup
 returns-2 c = rw (add-zero (c .before .before .before .before .args .at), ← c .before .word .ensures, ne-eqb (c .before .word .result) 1 (c .if1 .left)) refl
 
 pub optional-lookup-of-spec : {M : Type 1} → statement M

@@ -2,7 +2,7 @@
 -- Assumes nothing.
 use mathlib.Core.Path.{refl}
 use native.Mathlib.Nat.{div-one}
-use Rattle.block_head.specs.Parts.{settingsOf}
+use Rattle.block_head.specs.Parts.{headSettings}
 use borrow.Author.Needs.{needs}
 use Rattle.block_head.proofs.settings_of.Statement.{statement}
 use Rattle.block_head.proofs.settings_of.Tie as tie
@@ -35,7 +35,7 @@ word-requires-7 : tie.Need-word-requires-7
 word-requires-7 c κs = search needs
 
 returns : tie.Need-returns
-unfolding settingsOf
+unfolding headSettings
 returns c = rw (div-one, c .before .before .before .before .before .before .before .before .word .ensures, c .before .before .before .before .before .before .before .word2 .ensures, c .before .before .before .before .before .bump-of .ensures, c .before .before .before .before .before .before .word3 .ensures, c .before .before .before .shadow-of .ensures, c .before .before .before .before .word4 .ensures, c .before .before .word5 .ensures, c .before .word6 .ensures, c .word7 .ensures) refl
 
 pub settings-of-spec : {M : Type 1} → statement M

@@ -2,7 +2,7 @@
 use mathlib.Core.Path.{refl}
 use borrow.Author.Tests.{eq-eqb, ne-eqb}
 use Prim.Native.Nat.{_/_, _%_}
-use Rattle.block.specs.Reading.{distanceOf}
+use Rattle.block.specs.Reading.{blockDistance}
 use borrow.Author.Needs.{needs}
 use Rattle.block_light.proofs.distance_of.Statement.{statement}
 use Rattle.block_light.proofs.distance_of.Tie as tie
@@ -32,11 +32,11 @@ float-of-requires-2 : tie.Need-float-of-requires-2
 float-of-requires-2 c κs = search needs
 
 returns : tie.Need-returns
-unfolding distanceOf
+unfolding blockDistance
 returns c = rw (← c .before .before .before .before .before .word .ensures, eq-eqb (c .before .before .before .before .before .word .result / 16 % 2) 1 (c .before .before .before .before .if1 .taken), c .before .before .float-of .ensures, c .before .before .before .word2 .ensures, c .float-of2 .ensures, c .before .word3 .ensures) refl
 
 returns-2 : tie.Need-returns-2
-unfolding distanceOf
+unfolding blockDistance
 returns-2 c = rw (← c .before .word .ensures, ne-eqb (c .before .word .result / 16 % 2) 1 (c .if1 .left)) refl
 
 pub distance-of-spec : {M : Type 1} → statement M

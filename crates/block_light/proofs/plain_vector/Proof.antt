@@ -4,7 +4,7 @@ use Prim.Native.Nat.{_+_}
 use native.Mathlib.Omega.{arith}
 use Rattle.sources.specs.Sources.{given}
 use Rattle.block.specs.Formed.{words}
-use Rattle.block.specs.Reading.{vectorOf}
+use Rattle.block.specs.Reading.{blockVector}
 use Rattle.block_light.proofs.Plain.{no-nan}
 use borrow.Author.Needs.{needs}
 use Rattle.block_light.proofs.plain_vector.Statement.{statement}
@@ -38,7 +38,7 @@ vector-of-requires : tie.Need-vector-of-requires
 vector-of-requires c κs = search needs
 
 returns : tie.Need-returns
-unfolding vectorOf
+unfolding blockVector
 returns c = cc
 
 returns-2 : tie.Need-returns-2

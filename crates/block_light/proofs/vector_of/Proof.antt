@@ -1,5 +1,5 @@
 -- `block_light::vector_of` meets its contract: each component is the float of its word. Assumes nothing.
-use Rattle.block.specs.Reading.{vectorOf}
+use Rattle.block.specs.Reading.{blockVector}
 use borrow.Author.Needs.{needs}
 use Rattle.block_light.proofs.vector_of.Statement.{statement}
 use Rattle.block_light.proofs.vector_of.Tie as tie
@@ -29,7 +29,7 @@ float-of-requires-3 : tie.Need-float-of-requires-3
 float-of-requires-3 c κs = search needs
 
 returns : tie.Need-returns
-unfolding vectorOf
+unfolding blockVector
 returns c = cc
 
 pub vector-of-spec : {M : Type 1} → statement M

@@ -4,7 +4,7 @@ use mathlib.Core.List.{List}
 use Rattle.lighting.specs.declared.Light.{Light}
 use Rattle.sources.specs.Sources.{given}
 use Rattle.block.specs.Formed.{words}
-use Rattle.block.specs.Reading.{lightingWith, lightingOf}
+use Rattle.block.specs.Reading.{blockLightingWith, blockLighting}
 use borrow.Author.Needs.{needs}
 use Rattle.block_reading.proofs.lighting_of.Statement.{statement}
 use Rattle.block_reading.proofs.lighting_of.Tie as tie
@@ -16,10 +16,10 @@ lighting-with-requires : tie.Need-lighting-with-requires
 lighting-with-requires c κs = search needs
 
 returns : tie.Need-returns
-unfolding lightingOf
+unfolding blockLighting
 returns c =
     let s = c .before .before .before .before in
-    c .lighting-with .ensures ∙ ap (λ (l : List Light). lightingWith (words (given (s .args .block .now) (s .args .bytes .now))) l) (c .before .lights-of .ensures)
+    c .lighting-with .ensures ∙ ap (λ (l : List Light). blockLightingWith (words (given (s .args .block .now) (s .args .bytes .now))) l) (c .before .lights-of .ensures)
 
 pub lighting-of-spec : {M : Type 1} → statement M
 lighting-of-spec = tie.close (tie.spec lights-of-requires lighting-with-requires returns)

@@ -6,7 +6,7 @@ use mathlib.Core.List.{List, []}
 use Rattle.sources.specs.Sources.{given}
 use Rattle.sources.specs.SourcesLaws.{given-words}
 use Rattle.block.specs.Formed.{words}
-use Rattle.block.specs.Reading.{lightingOf}
+use Rattle.block.specs.Reading.{blockLighting}
 use Rattle.block.specs.Answers.{blockForm}
 use Rattle.block_reading.proofs.Answers.{can-read, read-lit, read-dark}
 use borrow.Author.Needs.{needs}
@@ -38,7 +38,7 @@ returns : tie.Need-returns
 returns c =
     let s = c .before .before .before .before .before .before .before .before .before in
     read-lit _ _ (c .before .before .before .before .before .before .form .ensures ∙ ap blockForm (given-words (s .args .block .now) [] refl)) _ (c .before .before .before .before .is-lit .ensures) _ (c .before .before .before .before .before .outcome-of .ensures) _ (c .before .before .before .if1 .taken)
-    (c .lighting-of .ensures ∙ ap (λ (l : List ℕ). lightingOf (words l)) (given-words (s .args .block .now) [] refl))
+    (c .lighting-of .ensures ∙ ap (λ (l : List ℕ). blockLighting (words l)) (given-words (s .args .block .now) [] refl))
 
 blank-lighting-requires : tie.Need-blank-lighting-requires
 blank-lighting-requires c κs = search needs

@@ -4,7 +4,7 @@ use Prim.Native.Nat.{_+_, _≤_, _-_}
 use native.Mathlib.Omega.{arith}
 use borrow.Author.Needs.{needs}
 use lib.ListN.{length, set, replicate}
-use Rattle.block_rows.specs.Put.{put}
+use Rattle.block_rows.specs.Put.{putWords}
 use Rattle.block_rows.specs.PutLaws.{length-put, zero-more}
 use mathlib.Core.List.{List}
 use Prim.Native.Nat.{ℕ, _+_, _≤_, _-_}
@@ -12,13 +12,13 @@ use Rattle.block_rows.proofs.put_zeros.Statement.{statement}
 use Rattle.block_rows.proofs.put_zeros.Tie as tie
 
 abbrev Inv-loop : tie.InvT-loop
-Inv-loop block₀ at i₀ block i = (i ≤ 36) × (block ≡ put block₀ at (replicate i 0))
+Inv-loop block₀ at i₀ block i = (i ≤ 36) × (block ≡ putWords block₀ at (replicate i 0))
 
 abbrev μ-loop : tie.MeasureT-loop
 μ-loop block₀ at i₀ block i = 36 - i
 
 loop-holds : tie.Need-loop-holds Inv-loop μ-loop
-unfolding put
+unfolding putWords
 loop-holds c = (omega arith, refl)
 
 add-block : tie.Need-add-block Inv-loop μ-loop

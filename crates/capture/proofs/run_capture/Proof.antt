@@ -8,7 +8,7 @@ use borrow.Author.Tests.{lt-leb, not-true, not-false}
 use lib.ListN.{length}
 use lib.Seq.{length-take-le}
 use Rattle.writing.specs.Writing.{out, puts}
-use Rattle.capture_check.specs.Refusal.{wordsRefusal}
+use Rattle.capture_check.specs.Refusal.{captureWordsRefusal}
 use Rattle.capture_contents.specs.ContentsLaws.{sized-most}
 use Rattle.refusals.specs.declared.Refusal.the-variants.{BadCapture}
 use Rattle.capture_answers.specs.declared.Answer.the-variants.{Refused}
@@ -69,7 +69,7 @@ returns-3 c =
     let t = c .before .before .before .before .before .before .to-words in
     let w = front-words _ _ _ _ (t .ensures .0) (t .ensures .1) (t .kept .1 .0) in
     let h = printed-good (a .input .now) (sym (c .before .before .before .before .before .before .before .before .before .sized .ensures) ∙ not-false _ (c .before .before .before .before .before .before .before .before .if2 .left)) in (
-      captures-is (a .input .now) (a .output .now) _ (r .result) (c .before .before .before .before .before .before .before .before .before .before .if1 .left) (r .ensures .0 ∙ ap wordsRefusal w ∙ h .0) (r .ensures .1 .0 ∙ ap (puts (out (a .output .now) 0)) (ap (λ (v : List ℕ). printedIf (wordsRefusal v) v) w ∙ h .1)),
+      captures-is (a .input .now) (a .output .now) _ (r .result) (c .before .before .before .before .before .before .before .before .before .before .if1 .left) (r .ensures .0 ∙ ap captureWordsRefusal w ∙ h .0) (r .ensures .1 .0 ∙ ap (puts (out (a .output .now) 0)) (ap (λ (v : List ℕ). printedIf (captureWordsRefusal v) v) w ∙ h .1)),
       r .ensures .1 .1,
     )
 

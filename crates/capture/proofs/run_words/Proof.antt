@@ -3,7 +3,7 @@ use native.Mathlib.Omega.{arith}
 use mathlib.Core.Path.{_≡_, sym, ap, _∙_}
 use Rattle.refusals.specs.Numbers.{outcomeNumber}
 use Rattle.writing.specs.Writing.{out, puts}
-use Rattle.capture_check.specs.Refusal.{wordsRefusal}
+use Rattle.capture_check.specs.Refusal.{captureWordsRefusal}
 use Rattle.capture_printed.specs.Printed.{printedIf}
 use Rattle.capture.proofs.Whole.{refused-number, refused-small, refused-prints}
 use borrow.Author.Needs.{needs}
@@ -19,7 +19,7 @@ enum-told c = search needs
 run-fresh-requires : tie.Need-run-fresh-requires
 run-fresh-requires c κs =
     let s = c .before .before .before .before .before .before in
-    let e : wordsRefusal (s .args .words .now) ≡ 0 = sym (c .before .before .before .check-words .ensures) ∙ ap outcomeNumber (c .before .enum-told .given .1) in
+    let e : captureWordsRefusal (s .args .words .now) ≡ 0 = sym (c .before .before .before .check-words .ensures) ∙ ap outcomeNumber (c .before .enum-told .given .1) in
     (s .pre .0, e, s .pre .1)
 
 enum-known-outcome : tie.Need-enum-known-outcome
@@ -39,7 +39,7 @@ unfolding printedIf
 returns c =
     let s = c .before .before .before .before .before .before .before .before .before in
     let r = c .before .before .run-fresh in
-    let e : wordsRefusal (s .args .words .now) ≡ 0 = sym (c .before .before .before .before .before .before .check-words .ensures) ∙ ap outcomeNumber (c .before .before .before .before .enum-told .given .1) in
+    let e : captureWordsRefusal (s .args .words .now) ≡ 0 = sym (c .before .before .before .before .before .before .check-words .ensures) ∙ ap outcomeNumber (c .before .before .before .before .enum-told .given .1) in
     (sym e, rw e (r .ensures))
 
 same-length-2 : tie.Need-same-length-2

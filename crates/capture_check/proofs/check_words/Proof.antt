@@ -3,7 +3,7 @@
 use native.Mathlib.Omega.{arith}
 use mathlib.Core.Path.{sym, _∙_}
 use borrow.Author.Tests.{not-true, not-false}
-use Rattle.capture_check.specs.Refusal.{wordsRefusal}
+use Rattle.capture_check.specs.Refusal.{captureWordsRefusal}
 use Rattle.capture_contents.specs.ContentsLaws.{shaped-end, shaped-gapless}
 use borrow.Author.Needs.{needs}
 use Rattle.capture_check.proofs.check_words.Statement.{statement}
@@ -13,7 +13,7 @@ shaped-requires : tie.Need-shaped-requires
 shaped-requires c κs = search needs
 
 returns : tie.Need-returns
-unfolding wordsRefusal
+unfolding captureWordsRefusal
 returns c = rw (sym (c .before .shaped .ensures) ∙ not-true _ (c .if1 .taken))
 
 shared-slice-read-wide : tie.Need-shared-slice-read-wide
@@ -28,11 +28,11 @@ registers-right-requires c κs =
     (rw (c .wide .ensures .0) (shaped-end _ e), rw (c .wide .ensures .0) (shaped-gapless _ e))
 
 returns-2 : tie.Need-returns-2
-unfolding wordsRefusal
+unfolding captureWordsRefusal
 returns-2 c = rw (sym (c .before .before .before .before .before .shaped .ensures) ∙ not-false _ (c .before .before .before .before .if1 .left), ← c .before .before .wide .ensures .0, sym (c .before .registers-right .ensures) ∙ not-true _ (c .if2 .taken))
 
 returns-3 : tie.Need-returns-3
-unfolding wordsRefusal
+unfolding captureWordsRefusal
 returns-3 c = rw (sym (c .before .before .before .before .before .shaped .ensures) ∙ not-false _ (c .before .before .before .before .if1 .left), ← c .before .before .wide .ensures .0, sym (c .before .registers-right .ensures) ∙ not-false _ (c .if2 .left))
 
 pub check-words-spec : {M : Type 1} → statement M

@@ -2,7 +2,7 @@
 use native.Mathlib.Omega.{arith}
 use borrow.Author.Tests.{le-leb, lt-leb}
 use lib.ListN.{length}
-use Rattle.capture_contents.specs.Contents.{shaped, contentsEnd, countOf}
+use Rattle.capture_contents.specs.Contents.{shaped, contentsEnd, bodyCount}
 use Rattle.capture_form.proofs.Turns.{both-none}
 use borrow.Author.Needs.{needs}
 use Rattle.capture_form.proofs.shaped.Statement.{statement}
@@ -12,7 +12,7 @@ returns : tie.Need-returns
 unfolding shaped
 returns c =
     let w = c .before .before .args .words .now in
-    simp (lt-leb (contentsEnd (countOf w)) (length w) (omega arith), both-none)
+    simp (lt-leb (contentsEnd (bodyCount w)) (length w) (omega arith), both-none)
 
 shared-slice-read-wide : tie.Need-shared-slice-read-wide
 shared-slice-read-wide c = search needs

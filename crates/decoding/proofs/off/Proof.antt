@@ -1,5 +1,5 @@
 -- `decoding::off` meets its contract. The lighting is what `blank_lighting` ensures. Assumes nothing.
-use Rattle.decoding.specs.Decode.{off}
+use Rattle.lighting.specs.Blank.{off}
 use borrow.Author.Needs.{needs}
 use Rattle.decoding.proofs.off.Statement.{statement}
 use Rattle.decoding.proofs.off.Tie as tie
@@ -8,7 +8,6 @@ blank-lighting-requires : tie.Need-blank-lighting-requires
 blank-lighting-requires c κs = search needs
 
 returns : tie.Need-returns
-unfolding off
 returns c = rw (c .blank-lighting .ensures)
 
 pub off-spec : {M : Type 1} → statement M

@@ -1,15 +1,15 @@
 -- `flag_words::flag` meets its contract: it is the definition, by its two cases. Assumes nothing.
 use native.Mathlib.Omega.{arith}
-use Rattle.block.specs.Words.{flagOf}
+use Rattle.block.specs.Words.{flagWord}
 use Rattle.flag_words.proofs.flag.Statement.{statement}
 use Rattle.flag_words.proofs.flag.Tie as tie
 
 returns : tie.Need-returns
-unfolding flagOf
+unfolding flagWord
 returns c = (simp (c .if1 .taken), omega arith)
 
 returns-2 : tie.Need-returns-2
-unfolding flagOf
+unfolding flagWord
 returns-2 c = (simp (c .if1 .left), omega arith)
 
 pub flag-spec : {M : Type 1} → statement M

@@ -1,11 +1,11 @@
 -- `lighting_parts::lookups_of` meets its contract: each operation and call is the definition's, in its order. Assumes nothing.
-use Rattle.lighting_parts.specs.Parts.{lookupsOf}
+use Rattle.lighting_parts.specs.Parts.{lightingLookups}
 use mathlib.Core.Path.{refl}
 use Rattle.lighting_parts.proofs.lookups_of.Statement.{statement}
 use Rattle.lighting_parts.proofs.lookups_of.Tie as tie
 
 returns : tie.Need-returns
-unfolding lookupsOf
+unfolding lightingLookups
 returns c = refl
 
 pub lookups-of-spec : {M : Type 1} → statement M

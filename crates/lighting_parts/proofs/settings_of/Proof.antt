@@ -1,5 +1,5 @@
 -- `lighting_parts::settings_of` meets its contract: each operation and call is the definition's, in its order. Assumes nothing.
-use Rattle.lighting_parts.specs.Parts.{settingsOf}
+use Rattle.lighting_parts.specs.Parts.{lightingSettings}
 use borrow.Author.Needs.{needs}
 use Rattle.lighting_parts.proofs.settings_of.Statement.{statement}
 use Rattle.lighting_parts.proofs.settings_of.Tie as tie
@@ -20,7 +20,7 @@ both-requires-2 : tie.Need-both-requires-2
 both-requires-2 c κs = search needs
 
 returns : tie.Need-returns
-unfolding settingsOf
+unfolding lightingSettings
 returns c = simp (c .both2 .ensures, c .before .both .ensures, c .before .before .secondary-of .ensures, c .before .before .before .primary-of .ensures, c .before .before .before .before .present .ensures)
 
 pub settings-of-spec : {M : Type 1} → statement M

@@ -7,14 +7,14 @@ use borrow.Author.Tests.{ltb-true}
 use lib.ListN.{length}
 use Rattle.block.specs.Words.{lightAt, slotsWords}
 use Rattle.block.specs.PackedLaws.{range-number}
-use Rattle.block_rows.specs.Put.{put}
+use Rattle.block_rows.specs.Put.{putWords}
 use Rattle.block_rows.specs.PutLaws.{length-put}
 use Rattle.packing.proofs.Parts.{none-put, slot-put, all-put}
 use Rattle.packing.proofs.fill.Statement.{statement}
 use Rattle.packing.proofs.fill.Tie as tie
 
 abbrev Inv-loop : tie.InvT-loop
-Inv-loop block₀ l s₀ block s = (s ≤ 8) × (length block ≡ 328) × (block ≡ put block₀ 40 (slotsWords l s))
+Inv-loop block₀ l s₀ block s = (s ≤ 8) × (length block ≡ 328) × (block ≡ putWords block₀ 40 (slotsWords l s))
 
 abbrev μ-loop : tie.MeasureT-loop
 μ-loop block₀ l s₀ block s = 8 - s

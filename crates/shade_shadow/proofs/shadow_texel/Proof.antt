@@ -1,5 +1,5 @@
 -- `shade_shadow::shadow_texel` meets its contract: each operation and call is the definition's, in its order. Assumes nothing.
-use Rattle.shade_shadow.specs.Shadow.{shadowOf}
+use Rattle.shade_shadow.specs.Shadow.{shadowTexel}
 use borrow.Author.Needs.{needs}
 use Rattle.shade_shadow.proofs.shadow_texel.Statement.{statement}
 use Rattle.shade_shadow.proofs.shadow_texel.Tie as tie
@@ -14,11 +14,11 @@ inverted-requires : tie.Need-inverted-requires
 inverted-requires c κs = search needs
 
 returns : tie.Need-returns
-unfolding shadowOf
+unfolding shadowTexel
 returns c = simp (c .enum-told .given .1)
 
 returns-2 : tie.Need-returns-2
-unfolding shadowOf
+unfolding shadowTexel
 returns-2 c = simp (c .inverted .ensures, c .before .before .shadow .given .1)
 
 pub shadow-texel-spec : {M : Type 1} → statement M

@@ -9,7 +9,7 @@ use borrow.Author.Tests.{leb-true}
 use Rattle.sources.specs.Sources.{given}
 use Rattle.block.specs.Formed.{words}
 use Rattle.block.specs.FormedLaws.{formed-parts}
-use Rattle.block.specs.Reading.{lightsOf}
+use Rattle.block.specs.Reading.{blockLights}
 use Rattle.light_sums.specs.Sums.{sumsBy}
 use Rattle.slot_shading.specs.HeadLaws.{lit-light, lit-number}
 use Rattle.slot_shading.proofs.sum_slots.Statement.{statement}
@@ -17,7 +17,7 @@ use Rattle.slot_shading.proofs.sum_slots.Tie as tie
 
 abbrev Inv-loop : tie.InvT-loop
 Inv-loop block block-bytes tables table-bytes plain lookups frame settings count sums₀ i₀ sums i =
-    (i ≤ count) × (count ≤ 8) × (sums ≡ sumsBy (given tables table-bytes) lookups frame settings (lightsOf (words (given block block-bytes))) count i)
+    (i ≤ count) × (count ≤ 8) × (sums ≡ sumsBy (given tables table-bytes) lookups frame settings (blockLights (words (given block block-bytes))) count i)
 
 abbrev μ-loop : tie.MeasureT-loop
 μ-loop block block-bytes tables table-bytes plain lookups frame settings count sums₀ i₀ sums i = count - i

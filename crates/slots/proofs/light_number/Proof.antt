@@ -1,5 +1,5 @@
 -- `slots::light_number` meets its contract. It makes the definition's own calls, in its order. Assumes nothing.
-use Rattle.slots.specs.Slots.{numberOf}
+use Rattle.slots.specs.Slots.{lightNumberOf}
 use borrow.Author.Needs.{needs}
 use Rattle.slots.proofs.light_number.Statement.{statement}
 use Rattle.slots.proofs.light_number.Tie as tie
@@ -20,7 +20,7 @@ cast-t7 : tie.Need-cast-t7
 cast-t7 c = search needs
 
 returns : tie.Need-returns
-unfolding numberOf
+unfolding lightNumberOf
 returns c = simp (c .before .before .register .ensures, c .bits .ensures)
 
 pub light-number-spec : {M : Type 1} → statement M

@@ -4,7 +4,7 @@ use borrow.Author.Needs.{needs}
 use mathlib.Core.Path.{_∙_, refl}
 use lib.ListN.{List·getD-eq-default}
 use Rattle.tables.specs.Upload.{entryPlace}
-use Rattle.tables.specs.Lookup.{lookupOf}
+use Rattle.tables.specs.Lookup.{tableLookup}
 use Rattle.table_lookup.proofs.lookup.Statement.{statement}
 use Rattle.table_lookup.proofs.lookup.Tie as tie
 
@@ -39,7 +39,7 @@ interpolated-requires : tie.Need-interpolated-requires
 interpolated-requires c κs = search needs
 
 returns : tie.Need-returns
-unfolding lookupOf
+unfolding tableLookup
 returns c = c .interpolated .ensures
 
 mul-interpolated-3 : tie.Need-mul-interpolated-3
@@ -52,7 +52,7 @@ interpolated-requires-2 : tie.Need-interpolated-requires-2
 interpolated-requires-2 c κs = search needs
 
 returns-2 : tie.Need-returns-2
-unfolding lookupOf
+unfolding tableLookup
 returns-2 c =
     let x = c .before .before .before .before .before .args in
     c .interpolated2 .ensures
@@ -62,7 +62,7 @@ interpolated-requires-3 : tie.Need-interpolated-requires-3
 interpolated-requires-3 c κs = search needs
 
 returns-3 : tie.Need-returns-3
-unfolding lookupOf
+unfolding tableLookup
 returns-3 c =
     let x = c .before .before .before .before .args in
     c .interpolated3 .ensures

@@ -6,7 +6,7 @@ use mathlib.Core.Path.{_∙_, refl}
 use lib.ListN.{List·getD-eq-default}
 use Rattle.sources.specs.Sources.{given}
 use Rattle.tables.specs.Upload.{entryPlace}
-use Rattle.tables.specs.Lookup.{lookupOf}
+use Rattle.tables.specs.Lookup.{tableLookup}
 use borrow.Author.Needs.{needs}
 use Rattle.table_reading.proofs.fetch.Statement.{statement}
 use Rattle.table_reading.proofs.fetch.Tie as tie
@@ -36,11 +36,11 @@ interpolated-requires-2 : tie.Need-interpolated-requires-2
 interpolated-requires-2 c κs = search needs
 
 returns : tie.Need-returns
-unfolding lookupOf
+unfolding tableLookup
 returns c = simp (c .interpolated .ensures, c .before .word2 .ensures, c .before .before .word .ensures)
 
 returns-2 : tie.Need-returns-2
-unfolding lookupOf
+unfolding tableLookup
 returns-2 c =
     let s = c .before .before .before .before in
     let t = given (s .args .tables .now) (s .args .bytes .now) in

@@ -1,5 +1,5 @@
 -- `table_reading::read` meets its contract: each operation and call is the definition's, in its order. Assumes nothing.
-use Rattle.table_reading.specs.Entries.{readOf}
+use Rattle.table_reading.specs.Entries.{readValue}
 use borrow.Author.Needs.{needs}
 use Rattle.table_reading.proofs.read.Statement.{statement}
 use Rattle.table_reading.proofs.read.Tie as tie
@@ -14,11 +14,11 @@ fetch-requires : tie.Need-fetch-requires
 fetch-requires c κs = search needs
 
 returns : tie.Need-returns
-unfolding readOf
+unfolding readValue
 returns c = simp (c .enum-told .given .1)
 
 returns-2 : tie.Need-returns-2
-unfolding readOf
+unfolding readValue
 returns-2 c = simp (c .fetch .ensures, c .before .before .reading .given .1)
 
 pub read-spec : {M : Type 1} → statement M

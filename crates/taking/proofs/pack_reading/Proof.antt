@@ -3,7 +3,7 @@ use mathlib.Core.Path.{refl, _∙_}
 use borrow.Author.Needs.{needs}
 use Rattle.block.specs.Answers.{packedReading}
 use Rattle.unit.specs.HandOver.{packable}
-use Rattle.taking.specs.Taking.{packs}
+use Rattle.taking.specs.Taking.{packsReading}
 use Rattle.taking.proofs.Took.{pack-on}
 use Rattle.taking.proofs.pack_reading.Statement.{statement}
 use Rattle.taking.proofs.pack_reading.Tie as tie
@@ -26,7 +26,7 @@ same-length-2 : tie.Need-same-length-2
 same-length-2 c = search needs
 
 returns-2 : tie.Need-returns-2
-unfolding packs packable packedReading
+unfolding packsReading packable packedReading
 returns-2 c =
     let start = c .before .before .before .before .before .before in
     rw (c .before .before .before .before .if1 .left, c .before .before .clear .ensures, start .pre) refl
