@@ -1,26 +1,20 @@
--- Floor is exact: rounding a whole number of that size changes nothing, since a float with a rest is below 2 ^ 23, and one without is its own floor. And it is the floor: not above x, and above x − 1.
+-- Floor is exact: rounding a whole number of that size changes nothing, since a float with a rest is below 2 ^ 23, and one without is its own floor. Below zero its magnitude is the least whole number that is not below that of x.
 -- Assumes nothing.
 use mathlib.Core.Path.{_≡_, refl, sym, ap, _∙_, subst}
 use mathlib.Core.Logic.{inl, inr}
 use mathlib.Core.Bool.{Bool, true, false, not, _&&_, cond}
 use Prim.Native.Nat.{ℕ, suc, _+_, _*_, _/_, _%_, _^_, _≤_, _<_}
-use native.Mathlib.Nat.{mul-one, div-one, mod-one, add-mul, one-mul, div-mul-le-self, div-add-mod', lt-div-mul-add, mod-lt, div-lt-iff-lt-mul, lt-of-lt-of-le, le-trans, le-of-eq, mul-le-mul-left, eq-zero-or-pos, zero-lt-suc}
+use native.Mathlib.Nat.{mul-one, div-one, mod-one, add-mul, one-mul, div-add-mod', mod-lt, div-lt-iff-lt-mul, lt-of-lt-of-le, le-trans, le-of-eq, mul-le-mul-left, eq-zero-or-pos, zero-lt-suc}
 use native.Mathlib.Omega.{arith}
 use lib.IntN.{ℤ, pos, negsuc}
 use lib.Dec.{T, eqb, eqb→eq}
 use lib.Pow.{pow-pos, pow-mono}
-use lib.Ieee.{Float, nan, inf, fin, binary32, up, down, round, fits}
+use lib.Ieee.{Float, fin, binary32, up, down, round, fits}
 use lib.Ieee.Back.{round-whole}
 use lib.Ieee.Exact.{HasValue}
-use lib.Ieee.Fits.{down-pos, round-fits}
+use lib.Ieee.Fits.{down-pos}
 use Rattle.binary32.specs.ValueLaws.{held, round-own}
 use Rattle.binary32.specs.Floor.{wholePart, hasRest, floorPart, floorOf}
-
-pub floor-fits : (x : Float) → T (fits binary32 x) → T (fits binary32 (floorOf x))
-unfolding floorOf
-floor-fits nan h = h
-floor-fits (inf s) h = h
-floor-fits (fin s m e) h = round-fits binary32 s (floorPart s m e) 1
 
 -- ---- it is exact
 at-most-one-more : (b : Bool) (q : ℕ) → cond b (q + 1) q ≤ q + 1
@@ -53,10 +47,6 @@ floor-exact s m (pos k) h =
 floor-exact s m (negsuc k) h =
     round-whole binary32 s (floorPart s m (negsuc k))
     (le-trans (at-most-one-more (s && hasRest m (negsuc k)) (wholePart m (negsuc k))) (half-as-many m k (held s m (negsuc k) h .few)))
-
--- ---- from zero up: n ≤ m * 2 ^ e < n + 1
-pub floor-above-zero : (m : ℕ) (e : ℤ) → (floorPart false m e * down e ≤ m * up e) × (m * up e < floorPart false m e * down e + down e)
-floor-above-zero m e = (div-mul-le-self (m * up e) (down e), lt-div-mul-add (down-pos e))
 
 -- ---- below zero, in magnitude: n − 1 < m * 2 ^ e ≤ n
 bounds : (q r d a : ℕ) (b : Bool) → q * d + r ≡ a → r < d → b ≡ not (eqb r 0) → (a ≤ cond b (q + 1) q * d) × (cond b (q + 1) q * d < a + d)

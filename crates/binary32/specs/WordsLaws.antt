@@ -1,14 +1,11 @@
--- What `floatOf` and `wordOf` are to each other: they undo each other, but for a NaN pattern, which comes back as 7FC00000. Assumes nothing.
-use mathlib.Core.Path.{_≡_, refl, sym, ap, _∙_, subst}
+-- What `floatOf` and `wordOf` are to each other: a word comes back from its float, but for a NaN pattern, which comes back as 7FC00000. Assumes nothing.
+use mathlib.Core.Path.{_≡_, refl, sym, _∙_, subst}
 use mathlib.Core.Bool.{Bool, true, false, not}
 use Prim.Native.Nat.{ℕ, _<_}
 use lib.Dec.{T}
 use lib.Ieee.{Float, nan, inf, fin, binary32, fits, isNan, nanBits, toBits}
-use lib.Ieee.Bits.{ofBits-toBits, toBits-ofBits, toBits-lt, ofBits-fits, nanBits-is}
+use lib.Ieee.Bits.{toBits-ofBits, ofBits-fits, nanBits-is}
 use Rattle.binary32.specs.Words.{floatOf, wordOf}
-
-pub float-of-word-of : (x : Float) → T (fits binary32 x) → floatOf (wordOf x) ≡ x
-float-of-word-of x h = ofBits-toBits binary32 x h
 
 pub word-of-float-of : (n : ℕ) → n < 4294967296 → nanBits binary32 n ≡ false → wordOf (floatOf n) ≡ n
 word-of-float-of n h e = toBits-ofBits binary32 n h (subst (λ (b : Bool). T (not b)) (sym e ∙ nanBits-is binary32 n) tt)
@@ -25,12 +22,6 @@ nan-pattern-is-nan n e = only-nan (floatOf n) (sym (nanBits-is binary32 n) ∙ e
 pub word-of-nan : wordOf nan ≡ 0x7fc0_0000
 unfolding toBits
 word-of-nan = refl
-
-pub word-of-nan-pattern : (n : ℕ) → nanBits binary32 n ≡ true → wordOf (floatOf n) ≡ 0x7fc0_0000
-word-of-nan-pattern n e = ap wordOf (nan-pattern-is-nan n e) ∙ word-of-nan
-
-pub word-small : (x : Float) → T (fits binary32 x) → wordOf x < 4294967296
-word-small x h = toBits-lt binary32 x h
 
 pub float-fits : (n : ℕ) → T (fits binary32 (floatOf n))
 float-fits n = ofBits-fits binary32 n

@@ -3,13 +3,13 @@
 use Prim.Native.Nat.{ℕ}
 use mathlib.Core.Path.{_≡_, refl}
 use mathlib.Core.List.{List, [], _∷_, _++_}
-use mathlib.Core.Bool.{Bool, true, false}
+use mathlib.Core.Bool.{true, false}
 use lib.ListN.{set, replicate}
 use lib.Ieee.{Float, ofBits, toBits}
 use Rattle.binary32.specs.Words.{floatOf}
 use Rattle.lighting.specs.declared.OptionalLookup.the-variants.{Missing}
 use Rattle.lighting.specs.declared.Distance.the-variants.{Without}
-use Rattle.lighting.specs.declared.Bump.the-variants.{Flat, Normal}
+use Rattle.lighting.specs.declared.Bump.the-variants.{Flat}
 use Rattle.lighting.specs.declared.OptionalShadow.the-variants.{Unshadowed}
 use Rattle.lighting.specs.declared.Light.{Light}
 use Rattle.lighting.specs.declared.Lighting.{Lighting}
@@ -18,7 +18,7 @@ use Rattle.block.specs.declared.BlockForm.the-variants.{Off, NotWellForm
 use Rattle.block.specs.Words.{flagWord, bumpWord, shadowWord, presenceWord, inputWord, absoluteWord, scaleWord, lookupWords, vectorWords, headWords, biasWord, distanceScaleWord, isScaled, flagsWord, lightWords, lightAt, slotWords, slotsWords, packed}
 use Rattle.block.specs.Formed.{words, every, zeros, allZero, eachLookup, eachLit, bumpFormed, shadowFormed, scaleFormed, paddingZero, isNumber, floatFormed, wellFormed}
 use Rattle.block.specs.Reading.{blockBump, blockShadow, blockLookup, blockOptionalLookup, blockVector, blockDistance, blockLight, blockSlotLight, blockLights, blockLighting, on, blockReading}
-use Rattle.block.specs.Answers.{bumpUnit, shadowUnit, inRange, accepted, nanFree, formOf, blockForm}
+use Rattle.block.specs.Answers.{nanFree, formOf, blockForm}
 
 one : Float
 one = floatOf 0x3F80_0000

@@ -1,17 +1,16 @@
--- The lightings that `pack` accepts are the fine ones. Of a fine lighting's words each clause of a well-formed block holds by itself,
--- and from the words of an accepted one the same clauses give back what is fine. Assumes nothing.
+-- The lightings that `pack` accepts are the acceptable ones. Of a acceptable lighting's words each clause of a well-formed block holds by itself,
+-- and from the words of an accepted one the same clauses give back what is acceptable. Assumes nothing.
 use Prim.Native.Nat.{ℕ, zero, suc, _+_, _-_, _*_, _/_, _%_, _<_, _≤_}
 use native.Mathlib.Omega.{arith}
 use native.Mathlib.Nat.{zero-add}
-use mathlib.Core.Logic.{⊎-elim}
 use mathlib.Core.Path.{_≡_, refl, sym, ap, subst, _∙_}
-use mathlib.Core.Bool.{Bool, true, false, not, cond, _&&_, _||_}
+use mathlib.Core.Bool.{Bool, true, false, not, _&&_, _||_}
 use mathlib.Core.List.{List, [], _∷_}
-use lib.Dec.{T, eqb, ltb, leb}
-use lib.ListN.{length, getD, replicate, getD-replicate}
+use lib.Dec.{eqb, ltb, leb}
+use lib.ListN.{getD, getD-replicate}
 use lib.Ieee.{Float, nan, inf, fin, binary32, isNan, toBits}
 use lib.Ieee.Bits.{ofBits-toBits, nanBits-is, nanBits-above}
-use borrow.Author.Tests.{eq-eqb, lt-ltb, le-ltb, le-leb, ltb-true, ltb-false, leb-true, eqb-true, eqb-false}
+use borrow.Author.Tests.{eq-eqb, lt-ltb, le-ltb, le-leb, ltb-true, ltb-false}
 use Rattle.binary32.specs.Words.{wordOf}
 use Rattle.lighting.specs.declared.Lookup.{Lookup}
 use Rattle.lighting.specs.declared.OptionalLookup.{OptionalLookup}
@@ -28,9 +27,10 @@ use Rattle.vectors.specs.Vectors.{at}
 use Rattle.block.specs.Words.{bitOf, flagWord, bumpWord, shadowWord, presenceWord, inputWord, absoluteWord, scaleWord, lookupWords, vectorWords, headWords, biasWord, distanceScaleWord, isScaled, flagsWord, lightWords, lightAt, packed}
 use Rattle.block.specs.Formed.{words, from, lookupAt, slotAt, every, zeros, bitAt, bumpFormed, shadowFormed, scaleFormed, paddingZero, isNumber, floatFormed, wellFormed}
 use Rattle.block.specs.Answers.{bumpUnit, shadowUnit, inRange, accepted}
-use Rattle.block.specs.Claims.{Single, Vector, DistanceHeld, LightHeld, Held, lookupFine, optionalLookupFine, fine, AcceptedIs}
+use Rattle.block.specs.Acceptable.{lookupAcceptable, optionalLookupAcceptable, acceptable}
+use Rattle.block.specs.Claims.{Single, Vector, DistanceHeld, LightHeld, Held, AcceptedIs}
 use Rattle.block.specs.TestLaws.{never, both-first, both-second, _also_, or-first, or-second, same-bool, chain-first, chain-part, every-one}
-use Rattle.block.specs.FormedLaws.{Shaped, Formed, formed-parts, formed-made}
+use Rattle.block.specs.FormedLaws.{Shaped, formed-parts, formed-made}
 use Rattle.block.specs.FlagLaws.{flag-is, bit-small, bit-formed, flag-4, flags-small, needs-back, needs-small}
 use Rattle.block.specs.ListLaws.{picks, picks-at, slot-lit, slot-unlit, count-of}
 use Rattle.block.specs.PackedLaws.{range-bump, range-shadow, range-some, range-count, range-number, flags-are}
@@ -140,7 +140,7 @@ floats-listed v ws e = ap (λ (l : List ℕ). every 36 (λ j. floatFormed (words
 word-listed : (v : ℕ → ℕ) (ws : List ℕ) (p : ℕ → Bool) → picks v 0 36 ≡ ws → (p (v 32) ≡ p (words ws 32)) × (p (v 33) ≡ p (words ws 33))
 word-listed v ws p e = (ap (λ (l : List ℕ). p (words l 32)) e, ap (λ (l : List ℕ). p (words l 33)) e)
 
--- a fine lighting's words
+-- an acceptable lighting's words
 
 zero-bump : bumpFormed 0 ≡ true
 unfolding bumpFormed
@@ -188,7 +188,7 @@ shadow-formed (Shadowed s) h =
 half-view : (a b : Bool) → (not a || b) ≡ true → (not (bitAt (flagWord a 1 + flagWord b 2) 1) || bitAt (flagWord a 1 + flagWord b 2) 2) ≡ true
 half-view a b h = rw (needs-back a b .0, needs-back a b .1) h
 
--- what a fine lookup's words are
+-- what a acceptable lookup's words are
 record LookupWords (o : OptionalLookup) : Type 0 where
   presence : ltb (presenceWord o) 2 ≡ true
   input : ltb (inputWord o) 8 ≡ true
@@ -200,8 +200,8 @@ zero-scale : scaleFormed 0 ≡ true
 unfolding scaleFormed
 zero-scale = refl
 
-lookup-words : (o : OptionalLookup) → optionalLookupFine o ≡ true → LookupWords o
-unfolding optionalLookupFine lookupFine presenceWord inputWord absoluteWord scaleWord
+lookup-words : (o : OptionalLookup) → optionalLookupAcceptable o ≡ true → LookupWords o
+unfolding optionalLookupAcceptable lookupAcceptable presenceWord inputWord absoluteWord scaleWord
 lookup-words Missing h = record { presence = refl; input = refl; absolute = refl; scale = zero-scale; missing = refl }
 lookup-words (Present l) h = record {
   presence = refl;
@@ -221,29 +221,29 @@ seven p a b c d e f g (suc (suc (suc (suc (suc zero))))) h = f
 seven p a b c d e f g (suc (suc (suc (suc (suc (suc zero)))))) h = g
 seven p a b c d e f g (suc (suc (suc (suc (suc (suc (suc k))))))) h = absurd (omega arith)
 
-record Fine (l : Lighting) : Type 0 where
+record Acceptable (l : Lighting) : Type 0 where
   config : ltb (l .config) 16 ≡ true
-  distribution0 : optionalLookupFine (l .distribution0) ≡ true
-  distribution1 : optionalLookupFine (l .distribution1) ≡ true
-  fresnel : optionalLookupFine (l .fresnel) ≡ true
-  red : optionalLookupFine (l .«reflect_red») ≡ true
-  green : optionalLookupFine (l .«reflect_green») ≡ true
-  blue : optionalLookupFine (l .«reflect_blue») ≡ true
-  spotlight : lookupFine (l .spotlight) ≡ true
+  distribution0 : optionalLookupAcceptable (l .distribution0) ≡ true
+  distribution1 : optionalLookupAcceptable (l .distribution1) ≡ true
+  fresnel : optionalLookupAcceptable (l .fresnel) ≡ true
+  red : optionalLookupAcceptable (l .«reflect_red») ≡ true
+  green : optionalLookupAcceptable (l .«reflect_green») ≡ true
+  blue : optionalLookupAcceptable (l .«reflect_blue») ≡ true
+  spotlight : lookupAcceptable (l .spotlight) ≡ true
   half-view : (not (l .«needs_half») || l .«needs_view») ≡ true
   range : inRange l ≡ true
 
-fine-parts : (l : Lighting) → fine l ≡ true → Fine l
-unfolding fine
-fine-parts l h =
+acceptable-parts : (l : Lighting) → acceptable l ≡ true → Acceptable l
+unfolding acceptable
+acceptable-parts l h =
     let cs : List Bool =
-    optionalLookupFine (l .distribution0)
-    ∷ optionalLookupFine (l .distribution1)
-    ∷ optionalLookupFine (l .fresnel)
-    ∷ optionalLookupFine (l .«reflect_red»)
-    ∷ optionalLookupFine (l .«reflect_green»)
-    ∷ optionalLookupFine (l .«reflect_blue»)
-    ∷ lookupFine (l .spotlight)
+    optionalLookupAcceptable (l .distribution0)
+    ∷ optionalLookupAcceptable (l .distribution1)
+    ∷ optionalLookupAcceptable (l .fresnel)
+    ∷ optionalLookupAcceptable (l .«reflect_red»)
+    ∷ optionalLookupAcceptable (l .«reflect_green»)
+    ∷ optionalLookupAcceptable (l .«reflect_blue»)
+    ∷ lookupAcceptable (l .spotlight)
     ∷ (not (l .«needs_half») || l .«needs_view»)
     ∷ inRange l
     ∷ [] in
@@ -265,11 +265,11 @@ present : (l : Lookup) → eqb (presenceWord (Present l)) 1 ≡ true
 unfolding presenceWord
 present l = refl
 
-present-fine : (l : Lookup) → lookupFine l ≡ true → optionalLookupFine (Present l) ≡ true
-unfolding optionalLookupFine
-present-fine l h = h
+present-acceptable : (l : Lookup) → lookupAcceptable l ≡ true → optionalLookupAcceptable (Present l) ≡ true
+unfolding optionalLookupAcceptable
+present-acceptable l h = h
 
-module _ (l : Lighting) (h : Held l) (f : Fine l) where
+module _ (l : Lighting) (h : Held l) (f : Acceptable l) where
   lit-slot : (s : ℕ) → s < l .«light_count» → picks (from (words (packed l)) (slotAt s)) 0 36 ≡ lightWords (lightAt l s)
   lit-slot s k = let c : l .«light_count» ≤ 8 = range-count l (f .range) in slot-lit l s (omega arith) (lt-ltb s (l .«light_count») k)
 
@@ -298,7 +298,7 @@ module _ (l : Lighting) (h : Held l) (f : Fine l) where
   bl = lookup-words (l .«reflect_blue») (f .blue)
 
   sp : LookupWords (Present (l .spotlight))
-  sp = lookup-words (Present (l .spotlight)) (present-fine (l .spotlight) (f .spotlight))
+  sp = lookup-words (Present (l .spotlight)) (present-acceptable (l .spotlight) (f .spotlight))
 
   -- a word past the lit slots
   unlit-zero : (i : ℕ) → slotAt (l .«light_count») ≤ i → i < 328 → words (packed l) i ≡ 0
@@ -369,50 +369,50 @@ module _ (l : Lighting) (h : Held l) (f : Fine l) where
       go true e = ambient-formed i p (ltb-true i 40 e)
       go false e = lit-formed i (ltb-false i 40 e) (subst (λ (n : ℕ). i < slotAt n) (count-of l) q)
 
-  fine-formed : wellFormed (words (packed l)) ≡ true
-  fine-formed = formed-made (words (packed l)) (record { shape = shaped; floats = passes (words (packed l)) shaped floatFormed small-formed floats })
+  acceptable-formed : wellFormed (words (packed l)) ≡ true
+  acceptable-formed = formed-made (words (packed l)) (record { shape = shaped; floats = passes (words (packed l)) shaped floatFormed small-formed floats })
 
-fine-accepted : (l : Lighting) → Held l → fine l ≡ true → accepted l ≡ true
+acceptable-accepted : (l : Lighting) → Held l → acceptable l ≡ true → accepted l ≡ true
 unfolding accepted
-fine-accepted l h e = let f = fine-parts l e in f .range also fine-formed l h f
+acceptable-accepted l h e = let f = acceptable-parts l e in f .range also acceptable-formed l h f
 
--- an accepted lighting is fine
+-- an accepted lighting is acceptable
 
-optional-fine : (o : OptionalLookup) → ltb (inputWord o) 8 ≡ true → scaleFormed (scaleWord o) ≡ true → optionalLookupFine o ≡ true
-unfolding optionalLookupFine lookupFine inputWord scaleWord
-optional-fine Missing p q = refl
-optional-fine (Present l) p q = p also q
+optional-acceptable : (o : OptionalLookup) → ltb (inputWord o) 8 ≡ true → scaleFormed (scaleWord o) ≡ true → optionalLookupAcceptable o ≡ true
+unfolding optionalLookupAcceptable lookupAcceptable inputWord scaleWord
+optional-acceptable Missing p q = refl
+optional-acceptable (Present l) p q = p also q
 
-fine-present : (l : Lookup) → optionalLookupFine (Present l) ≡ true → lookupFine l ≡ true
-unfolding optionalLookupFine
-fine-present l h = h
+acceptable-present : (l : Lookup) → optionalLookupAcceptable (Present l) ≡ true → lookupAcceptable l ≡ true
+unfolding optionalLookupAcceptable
+acceptable-present l h = h
 
-needs-fine : (a b : Bool) → (not (bitAt (flagWord a 1 + flagWord b 2) 1) || bitAt (flagWord a 1 + flagWord b 2) 2) ≡ true → (not a || b) ≡ true
-needs-fine a b h = rw (needs-back a b .0, needs-back a b .1) at h
+needs-acceptable : (a b : Bool) → (not (bitAt (flagWord a 1 + flagWord b 2) 1) || bitAt (flagWord a 1 + flagWord b 2) 2) ≡ true → (not a || b) ≡ true
+needs-acceptable a b h = rw (needs-back a b .0, needs-back a b .1) at h
 
-shaped-fine : (l : Lighting) → inRange l ≡ true → Shaped (words (packed l)) → fine l ≡ true
-unfolding fine packed headWords lookupWords vectorWords
-shaped-fine l r f =
+shaped-acceptable : (l : Lighting) → inRange l ≡ true → Shaped (words (packed l)) → acceptable l ≡ true
+unfolding acceptable packed headWords lookupWords vectorWords
+shaped-acceptable l r f =
     f .config
-    also optional-fine (l .distribution0) (f .input 0 (omega arith)) (f .scale 0 (omega arith))
-    also optional-fine (l .distribution1) (f .input 1 (omega arith)) (f .scale 1 (omega arith))
-    also optional-fine (l .fresnel) (f .input 2 (omega arith)) (f .scale 2 (omega arith))
-    also optional-fine (l .«reflect_red») (f .input 3 (omega arith)) (f .scale 3 (omega arith))
-    also optional-fine (l .«reflect_green») (f .input 4 (omega arith)) (f .scale 4 (omega arith))
-    also optional-fine (l .«reflect_blue») (f .input 5 (omega arith)) (f .scale 5 (omega arith))
-    also fine-present (l .spotlight) (optional-fine (Present (l .spotlight)) (f .input 6 (omega arith)) (f .scale 6 (omega arith)))
-    also needs-fine (l .«needs_half») (l .«needs_view») (f .half-view)
+    also optional-acceptable (l .distribution0) (f .input 0 (omega arith)) (f .scale 0 (omega arith))
+    also optional-acceptable (l .distribution1) (f .input 1 (omega arith)) (f .scale 1 (omega arith))
+    also optional-acceptable (l .fresnel) (f .input 2 (omega arith)) (f .scale 2 (omega arith))
+    also optional-acceptable (l .«reflect_red») (f .input 3 (omega arith)) (f .scale 3 (omega arith))
+    also optional-acceptable (l .«reflect_green») (f .input 4 (omega arith)) (f .scale 4 (omega arith))
+    also optional-acceptable (l .«reflect_blue») (f .input 5 (omega arith)) (f .scale 5 (omega arith))
+    also acceptable-present (l .spotlight) (optional-acceptable (Present (l .spotlight)) (f .input 6 (omega arith)) (f .scale 6 (omega arith)))
+    also needs-acceptable (l .«needs_half») (l .«needs_view») (f .half-view)
     also r
 
 pub accepted-range : (l : Lighting) → accepted l ≡ true → inRange l ≡ true
 unfolding accepted
 accepted-range l h = both-first (inRange l) (wellFormed (words (packed l))) h
 
-accepted-fine : (l : Lighting) → accepted l ≡ true → fine l ≡ true
+accepted-acceptable : (l : Lighting) → accepted l ≡ true → acceptable l ≡ true
 unfolding accepted
-accepted-fine l h =
-    shaped-fine l (both-first (inRange l) (wellFormed (words (packed l))) h)
+accepted-acceptable l h =
+    shaped-acceptable l (both-first (inRange l) (wellFormed (words (packed l))) h)
     (formed-parts (words (packed l)) (both-second (inRange l) (wellFormed (words (packed l))) h) .shape)
 
 pub accepted-is : AcceptedIs
-accepted-is l h = same-bool (accepted l) (fine l) (accepted-fine l) (fine-accepted l h)
+accepted-is l h = same-bool (accepted l) (acceptable l) (accepted-acceptable l) (acceptable-accepted l h)

@@ -1,22 +1,17 @@
 -- What the answers say of a block's words: it is all zero exactly when it reads as off, and free of NaN only if each word is.
 -- Both are read off the definitions. Assumes nothing.
-use Prim.Native.Nat.{ℕ, suc, _%_, _<_, _≤_}
-use mathlib.Core.Path.{_≡_, refl, sym, ap, subst, _∙_}
+use Prim.Native.Nat.{ℕ}
+use mathlib.Core.Path.{_≡_, refl, sym, subst}
 use mathlib.Core.Bool.{Bool, true, false, cond, not, _||_}
-use mathlib.Core.List.{List}
-use lib.Dec.{T, eqb, leb}
+use lib.Dec.{T, eqb}
 use lib.ListN.{length, replicate}
-use borrow.Author.Tests.{eq-eqb, leb-true}
-use Rattle.refusals.specs.Lengths.{blockRefusal, _else_}
-use Rattle.lighting.specs.declared.OptionalLighting.{OptionalLighting}
-use Rattle.block.specs.declared.BlockForm.{BlockForm}
-use Rattle.block.specs.declared.BlockForm.the-variants.{Off, NotWellFormed, NanFree, WithNan}
-use Rattle.block.specs.Formed.{words, every, zeros, allZero, isNumber, wellFormed}
+use borrow.Author.Tests.{eq-eqb}
+use Rattle.refusals.specs.Lengths.{blockRefusal}
+use Rattle.block.specs.Formed.{words, every, zeros, allZero, wellFormed}
 use Rattle.lighting.specs.Blank.{off}
 use Rattle.block.specs.Reading.{blockLighting, on, blockReading}
-use Rattle.block.specs.Answers.{nanFree, formOf, wordsRefusal, Read, read, readRefusal, reads}
-use Rattle.block.specs.Claims.{ZeroReadsOff, OffIsZero, NanFreeWords}
-use Rattle.block.specs.TestLaws.{never, every-one}
+use Rattle.block.specs.Answers.{wordsRefusal, Read, read, readRefusal, reads}
+use Rattle.block.specs.Claims.{ZeroReadsOff, OffIsZero}
 use Rattle.block.specs.ReadLaws.{all-zero-words}
 
 pub zero-reads-off : ZeroReadsOff
@@ -37,19 +32,3 @@ off-is-zero b h e = go (allZero (words b)) refl (rw (eq-eqb (length b) 328 h) at
         → b ≡ replicate 328 0
     go true z r = sym (all-zero-words b h z)
     go false z r = absurd (not-off (wellFormed (words b)) (words b) r)
-
-pub nan-free-words : NanFreeWords
-unfolding formOf nanFree isNumber
-nan-free-words w e i h = go (allZero w) (wellFormed w) (every 328 (λ j. leb (w j % 0x8000_0000) 0x7F80_0000)) refl e
-  where
-    other : BlockForm → Bool
-    other Off = false
-    other NotWellFormed = false
-    other NanFree = true
-    other WithNan = false
-
-    go : (x y z : Bool) → every 328 (λ j. leb (w j % 0x8000_0000) 0x7F80_0000) ≡ z → cond x Off (cond y (cond z NanFree WithNan) NotWellFormed) ≡ NanFree → w i % 0x8000_0000 ≤ 0x7F80_0000
-    go true y z q r = never (ap other r)
-    go false false z q r = never (ap other r)
-    go false true false q r = never (ap other r)
-    go false true true q r = leb-true _ _ (every-one 328 (λ j. leb (w j % 0x8000_0000) 0x7F80_0000) i q h)

@@ -1,7 +1,7 @@
 -- What `pack`, the check of a block and `read_block` answer, for every argument. Definitions only.
 use Prim.Native.Nat.{ℕ}
 use mathlib.Core.List.{List}
-use mathlib.Core.Bool.{Bool, true, false, cond, _&&_, _||_}
+use mathlib.Core.Bool.{Bool, cond, _&&_, _||_}
 use lib.Dec.{leb, eqb}
 use lib.ListN.{length, replicate}
 use Rattle.refusals.specs.Lengths.{blockRefusal, _else_}

@@ -1,13 +1,11 @@
 -- The laws of the block: reading what was packed, packing what was read, and which lightings are packed. Statements only.
 use Prim.Native.Nat.{ℕ, _<_, _≤_, _^_, _%_}
 use mathlib.Core.Path.{_≡_}
-use mathlib.Core.List.{List, [], _∷_}
-use mathlib.Core.Bool.{Bool, true, false, not, cond, _&&_, _||_}
-use lib.Dec.{T, ltb}
+use mathlib.Core.List.{List}
+use mathlib.Core.Bool.{true, _||_}
+use lib.Dec.{T}
 use lib.ListN.{length, replicate}
 use lib.Ieee.{Float, binary32, fits}
-use Rattle.binary32.specs.Words.{wordOf}
-use Rattle.lighting.specs.declared.Lookup.{Lookup}
 use Rattle.lighting.specs.declared.OptionalLookup.{OptionalLookup}
 use Rattle.lighting.specs.declared.OptionalLookup.the-variants.{Missing, Present}
 use Rattle.lighting.specs.declared.Distance.{Distance}
@@ -18,9 +16,10 @@ use Rattle.lighting.specs.Blank.{blankLight, off}
 use Rattle.block.specs.declared.BlockForm.the-variants.{NanFree}
 use Rattle.vectors.specs.Vectors.{at}
 use Rattle.block.specs.Words.{lightAt, packed}
-use Rattle.block.specs.Formed.{words, allZero, scaleFormed, wellFormed}
+use Rattle.block.specs.Formed.{words, allZero, wellFormed}
 use Rattle.block.specs.Reading.{on, blockLighting, blockReading}
-use Rattle.block.specs.Answers.{inRange, accepted, packs, packing, packedReading, formOf, reads, read}
+use Rattle.block.specs.Acceptable.{acceptable}
+use Rattle.block.specs.Answers.{inRange, accepted, packedReading, formOf, reads, read}
 
 -- What the types of a lighting say: an f32 is a float that binary32 holds, and a vector has three.
 abbrev pub Single : Float → Type 0
@@ -84,29 +83,8 @@ ReadPacks = (b : List ℕ) → length b ≡ 328 → WordsHeld (words b) → (all
 abbrev pub ReadAccepted : Type 0
 ReadAccepted = (b : List ℕ) → length b ≡ 328 → WordsHeld (words b) → wellFormed (words b) ≡ true → accepted (blockLighting (words b)) ≡ true
 
--- Which lightings `pack` accepts, said of the lighting itself.
-unfoldable pub lookupFine : Lookup → Bool
-lookupFine l = ltb (l .input) 8 && scaleFormed (wordOf (l .scale))
-
-unfoldable pub optionalLookupFine : OptionalLookup → Bool
-optionalLookupFine Missing = true
-optionalLookupFine (Present l) = lookupFine l
-
-unfoldable pub fine : Lighting → Bool
-fine l =
-    ltb (l .config) 16
-    && optionalLookupFine (l .distribution0)
-    && optionalLookupFine (l .distribution1)
-    && optionalLookupFine (l .fresnel)
-    && optionalLookupFine (l .«reflect_red»)
-    && optionalLookupFine (l .«reflect_green»)
-    && optionalLookupFine (l .«reflect_blue»)
-    && lookupFine (l .spotlight)
-    && (not (l .«needs_half») || l .«needs_view»)
-    && inRange l
-
 abbrev pub AcceptedIs : Type 0
-AcceptedIs = (l : Lighting) → Held l → accepted l ≡ fine l
+AcceptedIs = (l : Lighting) → Held l → accepted l ≡ acceptable l
 
 -- A block is all zero exactly when it reads as off.
 abbrev pub ZeroReadsOff : Type 0

@@ -1,7 +1,7 @@
 -- Which blocks are well formed: document 01's sentence, clause by clause, over a block's words. Definitions only.
 use Prim.Native.Nat.{ℕ, zero, suc, _+_, _-_, _*_, _/_, _%_}
 use mathlib.Core.List.{List}
-use mathlib.Core.Bool.{Bool, true, false, _&&_, _||_, not}
+use mathlib.Core.Bool.{Bool, true, _&&_, _||_, not}
 use lib.Dec.{ltb, leb, eqb}
 use lib.ListN.{getD}
 

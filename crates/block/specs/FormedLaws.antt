@@ -1,15 +1,12 @@
 -- A well-formed block, clause by clause: each clause of the definition as a fact, and the definition from all of them. The chain of
 -- tests holds exactly if each test does, and a test of every lookup or lit slot exactly if it does at each. Assumes nothing.
-use Prim.Native.Nat.{ℕ, _+_, _-_, _*_, _/_, _%_, _<_, _≤_}
-use native.Mathlib.Omega.{arith}
-use mathlib.Core.Path.{_≡_, refl}
-use mathlib.Core.Bool.{Bool, true, false, _&&_, _||_, not}
+use Prim.Native.Nat.{ℕ, _+_, _-_, _<_}
+use mathlib.Core.Path.{_≡_}
+use mathlib.Core.Bool.{Bool, true, _||_, not}
 use mathlib.Core.List.{List, [], _∷_}
 use lib.Dec.{ltb, leb, eqb}
-use lib.ListN.{getD}
-use borrow.Author.Tests.{eqb-true, eq-eqb, leb-true, ltb-true}
-use Rattle.block.specs.Formed.{words, from, lookupAt, slotAt, every, zeros, eachLookup, eachLit, bitAt, bumpFormed, shadowFormed, scaleFormed, paddingZero, isNumber, floatFormed, wellFormed}
-use Rattle.block.specs.TestLaws.{both-first, both-second, _also_, chain-first, chain-part, every-one, every-of}
+use Rattle.block.specs.Formed.{from, lookupAt, slotAt, every, zeros, eachLookup, eachLit, bitAt, bumpFormed, shadowFormed, scaleFormed, paddingZero, floatFormed, wellFormed}
+use Rattle.block.specs.TestLaws.{_also_, chain-first, chain-part, every-one, every-of}
 
 -- every clause but that on NaN
 pub record Shaped (w : ℕ → ℕ) : Type 0 where

@@ -2,6 +2,7 @@ pub mod Words
 pub mod Formed
 pub mod Reading
 pub mod Answers
+pub mod Acceptable
 pub mod Claims
 pub mod TestLaws
 pub mod FormedLaws

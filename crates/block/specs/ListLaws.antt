@@ -7,14 +7,13 @@ use mathlib.Core.Path.{_≡_, refl, sym, ap, _∙_}
 use mathlib.Core.Bool.{Bool, true, false, cond}
 use mathlib.Core.List.{List, [], _∷_, _++_}
 use lib.Dec.{eqb, ltb}
-use lib.ListN.{length, getD, take, drop, replicate, length-append, length-drop}
+use lib.ListN.{length, take, drop, replicate, length-append, length-drop}
 use lib.Seq.{take-all, drop-cons, drop-at, drop-append-le, take-append-le, drop-append-add}
 use borrow.Author.Tests.{eqb-true, eqb-false}
 use Rattle.lighting.specs.declared.Light.{Light}
 use Rattle.lighting.specs.declared.Lighting.{Lighting}
 use Rattle.block.specs.Words.{lookupWords, vectorWords, headWords, lightWords, lightAt, slotWords, slotsWords, packed}
-use Rattle.block.specs.Formed.{words, from, slotAt, every, zeros}
-use Rattle.block.specs.TestLaws.{every-one}
+use Rattle.block.specs.Formed.{words, from, slotAt}
 
 -- the n words from i on, one after the other
 abbrev pub picks : (ℕ → ℕ) → ℕ → ℕ → List ℕ

@@ -1,12 +1,12 @@
 -- Reading a packed lighting gives the lighting. Each value is got back from its own words: a float from its word, a flag from its bit,
 -- a light from its slot's part. Assumes nothing.
-use Prim.Native.Nat.{ℕ, zero, suc, _+_, _*_, _/_, _%_, _<_, _≤_}
+use Prim.Native.Nat.{ℕ, _+_, _*_, _/_, _%_, _<_, _≤_}
 use native.Mathlib.Omega.{arith}
 use native.Mathlib.Nat.{zero-add}
 use mathlib.Core.Path.{_≡_, refl, sym, ap, _∙_}
-use mathlib.Core.Bool.{Bool, true, false, cond, _&&_}
+use mathlib.Core.Bool.{Bool, true, false, cond}
 use mathlib.Core.List.{List, [], _∷_}
-use lib.Dec.{T, eqb, ltb, leb}
+use lib.Dec.{eqb, ltb, leb}
 use lib.ListN.{length, getD}
 use lib.Ieee.{Float, binary32}
 use lib.Ieee.Bits.{ofBits-toBits}
@@ -31,7 +31,7 @@ use Rattle.block.specs.Formed.{words, from, slotAt, every, allZero, zero
 use Rattle.block.specs.Reading.{blockBump, blockShadow, blockLookup, blockOptionalLookup, blockVector, blockDistance, blockLight, blockSlotLight, blockLights, blockLighting, on, blockReading}
 use Rattle.block.specs.Answers.{bumpUnit, shadowUnit, numbersFit, inRange}
 use Rattle.block.specs.Claims.{Single, Vector, DistanceHeld, LookupHeld, LightHeld, Held, BlankBeyond, PackedReads}
-use Rattle.block.specs.TestLaws.{both-first, both-second, chain-first, chain-part, every-one}
+use Rattle.block.specs.TestLaws.{chain-first, chain-part, every-one}
 use Rattle.block.specs.FlagLaws.{flag-is, bit-small, bit-back, back, flags7, flag-0, flag-1, flag-2, flag-3, flag-4, flag-5, flag-6, needs-back}
 use Rattle.block.specs.ListLaws.{picks, slot-lit, count-of}
 

@@ -1,27 +1,22 @@
 -- Packing a well-formed block's reading gives that block, and `pack` accepts it. The words of the head and of each slot are got back
 -- from what they read as, and put together they are the block. Assumes nothing.
-use Prim.Native.Nat.{ℕ, zero, suc, _+_, _-_, _*_, _/_, _%_, _<_, _≤_, _^_}
+use Prim.Native.Nat.{ℕ, zero, suc, _+_, _-_, _*_, _<_, _≤_}
 use native.Mathlib.Omega.{arith}
-use native.Mathlib.Nat.{zero-add}
-use mathlib.Core.Logic.{⊎-elim}
 use mathlib.Core.Path.{_≡_, refl, sym, ap, _∙_}
-use mathlib.Core.Bool.{Bool, true, false, cond, not, _&&_, _||_}
+use mathlib.Core.Bool.{Bool, true, false, cond, _||_}
 use mathlib.Core.List.{List, [], _∷_, _++_}
 use lib.Dec.{eqb, ltb, leb}
 use lib.ListN.{length, getD, replicate}
 use borrow.Author.Tests.{eqb-true, lt-ltb, ltb-true, ltb-false, leb-true, le-leb}
 use Rattle.binary32.specs.Words.{floatOf, wordOf}
 use Rattle.lighting.specs.declared.Light.{Light}
-use Rattle.lighting.specs.declared.Lighting.{Lighting}
-use Rattle.lighting.specs.declared.OptionalLighting.{OptionalLighting}
-use Rattle.block.specs.Words.{bitOf, flagWord, presenceWord, inputWord, absoluteWord, scaleWord, lookupWords, vectorWords, headWords, flagsWord, lightWords, lightAt, noLight, slotWords, slotsWords, packed}
+use Rattle.block.specs.Words.{bitOf, presenceWord, inputWord, absoluteWord, scaleWord, lookupWords, vectorWords, headWords, flagsWord, lightWords, lightAt, slotWords, slotsWords, packed}
 use Rattle.block.specs.Formed.{words, from, lookupAt, slotAt, every, zeros, allZero, bitAt, paddingZero, floatFormed, wellFormed}
-use Rattle.lighting.specs.Blank.{off}
-use Rattle.block.specs.Reading.{blockLookup, blockOptionalLookup, blockVector, blockDistance, blockLight, blockSlotLight, blockLights, blockLighting, on, blockReading}
+use Rattle.block.specs.Reading.{blockLookup, blockOptionalLookup, blockVector, blockLight, blockSlotLight, blockLights, blockLighting, blockReading}
 use Rattle.block.specs.Answers.{bumpUnit, shadowUnit, numbersFit, inRange, accepted, packedReading}
 use Rattle.block.specs.Claims.{WordsHeld, ReadPacks, ReadAccepted}
-use Rattle.block.specs.TestLaws.{_also_, chain-first, chain-part, every-one, every-of}
-use Rattle.block.specs.FormedLaws.{Shaped, Formed, formed-parts}
+use Rattle.block.specs.TestLaws.{_also_, chain-first, chain-part, every-of}
+use Rattle.block.specs.FormedLaws.{Formed, formed-parts}
 use Rattle.block.specs.SmallLaws.{unused-zero}
 use Rattle.block.specs.FlagLaws.{small-bit, flags7, flags-back, needs-word-back}
 use Rattle.block.specs.ListLaws.{picks, picks-append, picks-from, picked-all, one, zero-picks}

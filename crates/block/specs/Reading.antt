@@ -1,7 +1,7 @@
 -- What a block reads as. Definitions only.
-use Prim.Native.Nat.{ℕ, _+_, _*_, _/_, _%_}
+use Prim.Native.Nat.{ℕ, _+_, _/_, _%_}
 use mathlib.Core.List.{List, [], _∷_}
-use mathlib.Core.Bool.{Bool, true, false, cond}
+use mathlib.Core.Bool.{true, cond}
 use lib.Dec.{ltb, eqb}
 use lib.Ieee.{Float}
 use Rattle.binary32.specs.Words.{floatOf}

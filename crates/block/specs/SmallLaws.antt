@@ -1,10 +1,10 @@
 -- Where a block of the right shape can hold a NaN: the words before 36 are small, and those from the first unused slot on are zero, so
 -- only the global ambient and the lit slots are left. Assumes nothing.
-use Prim.Native.Nat.{ℕ, zero, suc, _+_, _-_, _*_, _/_, _%_, _<_, _≤_}
+use Prim.Native.Nat.{ℕ, zero, suc, _+_, _-_, _/_, _%_, _<_, _≤_}
 use native.Mathlib.Omega.{arith}
 use mathlib.Core.Path.{_≡_, refl, sym, ap, subst, _∙_}
 use mathlib.Core.Bool.{Bool, true, false}
-use lib.Dec.{eqb, ltb, leb}
+use lib.Dec.{ltb}
 use borrow.Author.Tests.{eqb-true, ltb-true, ltb-false, leb-true}
 use Rattle.block.specs.Formed.{lookupAt, slotAt}
 use Rattle.block.specs.FormedLaws.{Shaped}

@@ -1,6 +1,6 @@
 -- Tests joined by `&&`, and tests of every number below another. Each is by cases on a Bool or by induction on the number.
 -- Assumes nothing.
-use Prim.Native.Nat.{ℕ, zero, suc, _<_, _≤_}
+use Prim.Native.Nat.{ℕ, zero, suc, _<_}
 use native.Mathlib.Omega.{arith}
 use native.Mathlib.Nat.{not-suc-le-zero}
 use mathlib.Core.Path.{_≡_, refl, sym, ap, subst, _∙_}

@@ -7,25 +7,21 @@ use mathlib.Core.Path.{_≡_, refl, sym, ap, subst, _∙_}
 use mathlib.Core.Bool.{Bool, true, false, not, cond, _&&_, _||_}
 use mathlib.Core.List.{List, [], _∷_}
 use lib.Dec.{T, eqb, ltb, leb}
-use lib.Ieee.{Float, binary32, nanBits, ofBits, toBits}
+use lib.Ieee.{binary32, nanBits, ofBits, toBits}
 use lib.Ieee.Bits.{toBits-ofBits, nanBits-is, nanBits-above}
 use borrow.Author.Tests.{eq-eqb, ne-eqb, le-ltb, ltb-true, leb-true, eqb-true, eqb-false}
 use Rattle.binary32.specs.Words.{floatOf, wordOf}
-use Rattle.lighting.specs.declared.Lookup.{Lookup}
 use Rattle.lighting.specs.declared.OptionalLookup.{OptionalLookup}
 use Rattle.lighting.specs.declared.OptionalLookup.the-variants.{Missing, Present}
-use Rattle.lighting.specs.declared.Distance.{Distance}
 use Rattle.lighting.specs.declared.Distance.the-variants.{Without, Scaled}
-use Rattle.lighting.specs.declared.Bump.{Bump}
 use Rattle.lighting.specs.declared.Bump.the-variants.{Flat, Normal, Tangent}
-use Rattle.lighting.specs.declared.OptionalShadow.{OptionalShadow}
 use Rattle.lighting.specs.declared.OptionalShadow.the-variants.{Unshadowed, Shadowed}
-use Rattle.block.specs.Words.{bitOf, flagWord, bumpWord, shadowWord, presenceWord, inputWord, absoluteWord, scaleWord, biasWord, distanceScaleWord, isScaled}
-use Rattle.block.specs.Formed.{every, zeros, bitAt, bumpFormed, shadowFormed, scaleFormed, isNumber, floatFormed}
+use Rattle.block.specs.Words.{flagWord, bumpWord, shadowWord, presenceWord, inputWord, absoluteWord, scaleWord, biasWord, distanceScaleWord, isScaled}
+use Rattle.block.specs.Formed.{zeros, bitAt, bumpFormed, shadowFormed, scaleFormed, isNumber, floatFormed}
 use Rattle.block.specs.Reading.{blockBump, blockShadow, blockLookup, blockOptionalLookup, blockDistance}
 use Rattle.block.specs.Answers.{bumpUnit, shadowUnit}
 use Rattle.block.specs.TestLaws.{both-first, both-second, same-bool, chain-first, chain-part, or-cases, every-one}
-use Rattle.block.specs.FlagLaws.{flag-is, flag-bit, small-bit}
+use Rattle.block.specs.FlagLaws.{flag-bit, small-bit}
 
 -- a float's word
 

@@ -8,14 +8,12 @@ use lib.Ieee.{Float}
 use mir.Val.{boolByte}
 use Rattle.binary32.specs.Words.{wordOf}
 use Rattle.vectors.specs.Vectors.{at}
-use Rattle.lighting.specs.declared.Lookup.{Lookup}
 use Rattle.lighting.specs.declared.OptionalLookup.{OptionalLookup}
 use Rattle.lighting.specs.declared.OptionalLookup.the-variants.{Missing, Present}
 use Rattle.lighting.specs.declared.Distance.{Distance}
 use Rattle.lighting.specs.declared.Distance.the-variants.{Without, Scaled}
 use Rattle.lighting.specs.declared.Bump.{Bump}
 use Rattle.lighting.specs.declared.Bump.the-variants.{Flat, Normal, Tangent}
-use Rattle.lighting.specs.declared.Shadow.{Shadow}
 use Rattle.lighting.specs.declared.OptionalShadow.{OptionalShadow}
 use Rattle.lighting.specs.declared.OptionalShadow.the-variants.{Unshadowed, Shadowed}
 use Rattle.lighting.specs.declared.Light.{Light}

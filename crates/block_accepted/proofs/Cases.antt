@@ -12,7 +12,8 @@ use Rattle.lighting.specs.declared.Distance.{Distance}
 use Rattle.lighting.specs.declared.Distance.the-variants.{Without, Scaled}
 use Rattle.lighting.specs.declared.Lighting.{Lighting}
 use Rattle.block.specs.Answers.{bumpUnit, shadowUnit, numbersFit, inRange, accepted}
-use Rattle.block.specs.Claims.{Single, DistanceHeld, LookupHeld, Held, lookupFine, optionalLookupFine, fine}
+use Rattle.block.specs.Acceptable.{lookupAcceptable, optionalLookupAcceptable, acceptable}
+use Rattle.block.specs.Claims.{Single, DistanceHeld, LookupHeld, Held}
 use Rattle.block.specs.AcceptedLaws.{accepted-is}
 
 pub without-held : (d : Distance) → d ≡ Without → DistanceHeld d
@@ -36,15 +37,15 @@ pub count-holds : (l : Lighting) (b s : ℕ) (n : Bool) → leb (l .«light_coun
 unfolding inRange
 count-holds l b s n e p q r = rw (e, and-true, p, q, r) refl
 
-pub fine-made : (l : Lighting) (d0 d1 f r g u s i : Bool) → Held l
-    → d0 ≡ optionalLookupFine (l .distribution0)
-    → d1 ≡ optionalLookupFine (l .distribution1)
-    → f ≡ optionalLookupFine (l .fresnel)
-    → r ≡ optionalLookupFine (l .«reflect_red»)
-    → g ≡ optionalLookupFine (l .«reflect_green»)
-    → u ≡ optionalLookupFine (l .«reflect_blue»)
-    → s ≡ lookupFine (l .spotlight)
+pub acceptable-made : (l : Lighting) (d0 d1 f r g u s i : Bool) → Held l
+    → d0 ≡ optionalLookupAcceptable (l .distribution0)
+    → d1 ≡ optionalLookupAcceptable (l .distribution1)
+    → f ≡ optionalLookupAcceptable (l .fresnel)
+    → r ≡ optionalLookupAcceptable (l .«reflect_red»)
+    → g ≡ optionalLookupAcceptable (l .«reflect_green»)
+    → u ≡ optionalLookupAcceptable (l .«reflect_blue»)
+    → s ≡ lookupAcceptable (l .spotlight)
     → i ≡ inRange l
     → (ltb (l .config) 16 && d0 && d1 && f && r && g && u && s && (not (l .«needs_half») || l .«needs_view») && i) ≡ accepted l
-unfolding fine
-fine-made l d0 d1 f r g u s i h e1 e2 e3 e4 e5 e6 e7 e8 = rw (e1, e2, e3, e4, e5, e6, e7, e8) (sym (accepted-is l h))
+unfolding acceptable
+acceptable-made l d0 d1 f r g u s i h e1 e2 e3 e4 e5 e6 e7 e8 = rw (e1, e2, e3, e4, e5, e6, e7, e8) (sym (accepted-is l h))

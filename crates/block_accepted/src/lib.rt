@@ -1,34 +1,16 @@
-// Which lightings are packed, and shaded: those that decoding can give, and no others that a caller makes.
-use lighting::Bump;
+// Which lightings are packed, and shaded: those in range whose words are well formed.
+use block::bump_unit;
+use block::shadow_unit;
 use lighting::Distance;
 use lighting::Light;
 use lighting::Lighting;
 use lighting::Lookup;
 use lighting::OptionalLookup;
-use lighting::OptionalShadow;
 ghost use mathlib.Core.Path.{_≡_};
 ghost use Prim.Native.Nat.{_≤_};
-ghost use Rattle.block.specs.Answers.{bumpUnit, shadowUnit, numbersFit, inRange, accepted};
-ghost use Rattle.block.specs.Claims.{Single, Vector, DistanceHeld, LookupHeld, LightHeld, LightsHeld, Held, lookupFine, optionalLookupFine};
-
-fn unit_of_bump(bump: Bump) -> usize
-    ensures { λ r. ⌜ r ≡ bumpUnit bump ⌝ }
-{
-    match bump {
-        Bump::Flat => 0,
-        Bump::Normal(unit, _) => unit,
-        Bump::Tangent(unit) => unit,
-    }
-}
-
-fn unit_of_shadow(shadow: OptionalShadow) -> usize
-    ensures { λ r. ⌜ r ≡ shadowUnit shadow ⌝ }
-{
-    match shadow {
-        OptionalShadow::Unshadowed => 0,
-        OptionalShadow::Shadowed(s) => s.unit,
-    }
-}
+ghost use Rattle.block.specs.Answers.{numbersFit, inRange, accepted};
+ghost use Rattle.block.specs.Acceptable.{lookupAcceptable, optionalLookupAcceptable};
+ghost use Rattle.block.specs.Claims.{Single, Vector, DistanceHeld, LookupHeld, LightHeld, LightsHeld, Held};
 
 // Whether no lit light's number is above 7.
 fn numbers_fit(l: Lighting) -> bool
@@ -54,24 +36,21 @@ fn in_range(l: Lighting) -> bool
     if 8 < l.light_count {
         return false;
     }
-    (unit_of_bump(bump) <= 3)
-        & (unit_of_shadow(shadow) <= 3)
-        & (1 <= l.light_count)
-        & numbers_fit(l)
+    (bump_unit(bump) <= 3) & (shadow_unit(shadow) <= 3) & (1 <= l.light_count) & numbers_fit(l)
 }
 
-fn lookup_fine(l: Lookup) -> bool
-    ensures { λ r. ⌜ r ≡ lookupFine l ⌝ }
+fn lookup_acceptable(l: Lookup) -> bool
+    ensures { λ r. ⌜ r ≡ lookupAcceptable l ⌝ }
 {
     (l.input < 8) & block::scale_formed(binary32::word_of(l.scale))
 }
 
-fn optional_lookup_fine(lookup: OptionalLookup) -> bool
-    ensures { λ r. ⌜ r ≡ optionalLookupFine lookup ⌝ }
+fn optional_lookup_acceptable(lookup: OptionalLookup) -> bool
+    ensures { λ r. ⌜ r ≡ optionalLookupAcceptable lookup ⌝ }
 {
     match lookup {
         OptionalLookup::Missing => true,
-        OptionalLookup::Present(l) => lookup_fine(l),
+        OptionalLookup::Present(l) => lookup_acceptable(l),
     }
 }
 
@@ -175,13 +154,13 @@ pub fn acceptable(l: Lighting) -> bool
     let spotlight = l.spotlight;
     lighting_held(l);
     (l.config < 16)
-        & optional_lookup_fine(distribution0)
-        & optional_lookup_fine(distribution1)
-        & optional_lookup_fine(fresnel)
-        & optional_lookup_fine(red)
-        & optional_lookup_fine(green)
-        & optional_lookup_fine(blue)
-        & lookup_fine(spotlight)
+        & optional_lookup_acceptable(distribution0)
+        & optional_lookup_acceptable(distribution1)
+        & optional_lookup_acceptable(fresnel)
+        & optional_lookup_acceptable(red)
+        & optional_lookup_acceptable(green)
+        & optional_lookup_acceptable(blue)
+        & lookup_acceptable(spotlight)
         & (!l.needs_half | l.needs_view)
         & in_range(l)
 }

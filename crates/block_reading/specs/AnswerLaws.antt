@@ -6,7 +6,7 @@ use mathlib.Core.Bool.{Bool, true, false, cond}
 use mathlib.Core.List.{List}
 use lib.Dec.{eqb}
 use lib.ListN.{length}
-use borrow.Author.Tests.{eqb-true, eq-eqb, leb-true}
+use borrow.Author.Tests.{eqb-true, leb-true}
 use Rattle.block.specs.declared.BlockForm.{BlockForm}
 use Rattle.block.specs.declared.BlockForm.the-variants.{Off, NotWellFormed, NanFree, WithNan}
 use Rattle.block.specs.Formed.{words, allZero, wellFormed}
@@ -53,7 +53,6 @@ pub record Dark (b : List ℕ) : Type 0 where
 -- and of a refused one of the right length
 pub record Refused (b : List ℕ) : Type 0 where
   pub not-off : allZero (words b) ≡ false
-  pub not-formed : wellFormed (words b) ≡ false
   pub number : wordsRefusal (words b) ≡ 7
 
 module _ (b : List ℕ) where
@@ -89,18 +88,6 @@ module _ (b : List ℕ) where
 
   -- by the forms themselves
 
-  pub nan-free-lit : blockForm b ≡ NanFree → Lit b
-  unfolding isLit
-  nan-free-lit e = is-lit (rw e refl)
-
-  pub nan-free-plain : blockForm b ≡ NanFree → nanFree (words b) ≡ true
-  unfolding isPlain
-  nan-free-plain e = is-plain (rw e refl)
-
-  pub with-nan-lit : blockForm b ≡ WithNan → Lit b
-  unfolding isLit
-  with-nan-lit e = is-lit (rw e refl)
-
   pub is-off : blockForm b ≡ Off → Dark b
   unfolding blockForm formOf wordsRefusal blockReading
   is-off e = go (eqb (length b) 328) (allZero (words b)) (wellFormed (words b)) (nanFree (words b)) refl refl (rw e refl)
@@ -111,14 +98,3 @@ module _ (b : List ℕ) where
       go true false true false p q k = never k
       go true false false n p q k = never k
       go false z g n p q k = never k
-
-  pub is-refused : blockForm b ≡ NotWellFormed → length b ≡ 328 → Refused b
-  unfolding blockForm formOf wordsRefusal
-  is-refused e l = go (eqb (length b) 328) (allZero (words b)) (wellFormed (words b)) (nanFree (words b)) (eq-eqb (length b) 328 l) refl refl (rw e refl)
-    where
-      go : (x z g n : Bool) → x ≡ true → allZero (words b) ≡ z → wellFormed (words b) ≡ g → isRefused (formBy x z g n) ≡ true → Refused b
-      go true true g n o p q k = never k
-      go true false true true o p q k = never k
-      go true false true false o p q k = never k
-      go true false false n o p q k = record { not-off = p; not-formed = q; number = rw (p, q) refl }
-      go false z g n o p q k = never o

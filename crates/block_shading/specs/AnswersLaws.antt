@@ -2,20 +2,18 @@
 -- the first refusal. Assumes nothing.
 use Prim.Native.Nat.{ℕ}
 use mathlib.Core.Path.{_≡_, refl, sym, ap, _∙_}
-use mathlib.Core.Bool.{Bool, true, false, cond, _||_, true≢false}
+use mathlib.Core.Bool.{Bool, true, false, cond, true≢false}
 use mathlib.Core.List.{List}
-use lib.Dec.{eqb}
 use lib.ListN.{length}
 use borrow.Author.Tests.{eq-eqb, ne-eqb}
 use Rattle.refusals.specs.Lengths.{blockRefusal, tablesRefusal, fragmentRefusal, answerRefusal}
-use Rattle.block.specs.declared.BlockForm.{BlockForm}
 use Rattle.block.specs.declared.BlockForm.the-variants.{Off as OffForm, NotWellFormed as BadForm, NanFree, WithNan}
 use Rattle.block.specs.Formed.{words, allZero, wellFormed}
 use Rattle.lighting.specs.declared.OptionalLighting.{OptionalLighting}
 use Rattle.lighting.specs.Blank.{off}
 use Rattle.block.specs.Reading.{on, blockLighting, blockReading}
 use Rattle.block.specs.Answers.{nanFree, formOf, blockForm, wordsRefusal}
-use Rattle.block_shading.specs.BlockShading.{Shaded, shaded, eightOf, blockShadingRefusal, shadedBy, blockShadingIf, blockShading}
+use Rattle.block_shading.specs.BlockShading.{shaded, eightOf, blockShadingRefusal, shadedBy, blockShadingIf, blockShading}
 use Rattle.block_shading.specs.Answers.{isOff}
 use Rattle.block_reading.specs.Answer.{isLit}
 use Rattle.block_reading.specs.AnswerLaws.{is-lit}

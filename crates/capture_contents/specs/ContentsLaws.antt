@@ -9,7 +9,7 @@ use mathlib.Core.Bool.{Bool, true, false, _&&_}
 use borrow.Author.Tests.{eqb-true, leb-true}
 use lib.ListN.{length, getD, take, drop}
 use lib.Dec.{eqb, leb, ltb}
-use Rattle.capture_contents.specs.Contents.{Body, body, triple, triples, bodyCount, contents, contentsEnd, wordsIn, sized, lies, gapless, shaped}
+use Rattle.capture_contents.specs.Contents.{Body, triple, triples, bodyCount, contents, contentsEnd, wordsIn, sized, lies, gapless, shaped}
 
 both-left : (a b : Bool) → (a && b) ≡ true → a ≡ true
 both-left true b e = refl

@@ -13,7 +13,7 @@ use Rattle.lighting.specs.declared.OptionalLighting.{OptionalLighting}
 use Rattle.block.specs.Formed.{words, allZero, wellFormed}
 use Rattle.lighting.specs.Blank.{off}
 use Rattle.block.specs.Reading.{blockLighting, on, blockReading}
-use Rattle.block.specs.Answers.{inRange, wordsRefusal, Read, read, readRefusal, reads}
+use Rattle.block.specs.Answers.{inRange, wordsRefusal, Read, readRefusal, reads}
 use Rattle.block.specs.Claims.{WordsHeld}
 use Rattle.block.specs.AcceptedLaws.{accepted-range}
 use Rattle.block.specs.ReadLaws.{read-accepted}

@@ -4,8 +4,8 @@ use mathlib.Core.List.{List, [], _∷_}
 use mathlib.Core.Bool.{Bool, true, false, _&&_}
 use lib.Dec.{eqb}
 use lib.IntN.{pos, negsuc}
-use lib.ListN.{length, getD, set, replicate}
-use lib.Ieee.{Float, nan, binary32, div, ofInt}
+use lib.ListN.{getD, set, replicate}
+use lib.Ieee.{Float, nan, binary32, ofInt}
 use Rattle.binary32.specs.Words.{floatOf, wordOf}
 use Rattle.binary32.specs.Quantize.{quantizedOf}
 use Rattle.binary32.specs.Places.{signedPlaceOf}
@@ -54,7 +54,8 @@ cases =
     ∷ half 0x0001 is 0x3800_2000
     ∷ half 0x7C00 is 0x7F80_0000
     ∷ float20 0x3F000 is 0x3F80_0000
-    ∷ wordOf (fixedOf 0x1FFF) is wordOf (div binary32 (ofInt binary32 (negsuc 0)) (ofInt binary32 (pos 2047)))
+    -- −1/2047
+    ∷ wordOf (fixedOf 0x1FFF) is 0xBA00_1002
     ∷ wordOf (rootOf (ofInt binary32 (pos 2))) is 0x3FB5_04F3
     ∷ quantizedOf (floatOf 0x3F00_0000) is 127
     ∷ quantizedOf nan is 0

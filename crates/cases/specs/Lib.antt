@@ -1,2 +1,2 @@
 pub mod Cases
-pub mod CasesHold
+pub mod CasesLaws

@@ -18,7 +18,10 @@ pub const REFLECT_GREEN: u32 = 5;
 
 pub const REFLECT_RED: u32 = 6;
 
+// eight for the spotlights and eight for the distances, by the light's number
 pub const SPOTLIGHT: u32 = 8;
+
+pub const DISTANCE: u32 = 16;
 
 pub fn configuration(file: &[u32]) -> u32
     ensures { λ r. ⌜ r ≡ configOf (now (file .entry)) ⌝ }

@@ -1,12 +1,11 @@
--- The value and the step of a word of table data are values of binary32 and no NaN, since each is a whole number over another, so their patterns are words and stand for them alone. Assumes nothing.
+-- The value and the step of a word of table data are values of binary32 and no NaN, since each is a whole number over another, so their patterns are words. Assumes nothing.
 use Prim.Native.Nat.{ℕ, _/_, _%_, _<_, _^_}
 use mathlib.Core.Bool.{not}
-use mathlib.Core.Path.{_≡_}
 use lib.Dec.{T, eqb}
 use lib.IntN.{pos}
-use lib.Ieee.{binary32, ofInt, fits, isNan, ofBits}
+use lib.Ieee.{binary32, ofInt, fits, isNan}
 use lib.Ieee.Fits.{div-fits, neg-fits, cond-fits}
-use lib.Ieee.Bits.{ofBits-toBits, toBits-lt}
+use lib.Ieee.Bits.{toBits-lt}
 use Rattle.fields.specs.Upload.{uploadValue, uploadMagnitude, uploadStep, uploadValueBits, uploadStepBits}
 use Rattle.fields.specs.QuotientLaws.{quotient-number, neg-number, pick-number}
 
@@ -41,11 +40,3 @@ value-bits-lt w = toBits-lt binary32 (uploadValue w) (value-fits w)
 pub step-bits-lt : (w : ℕ) → uploadStepBits w < 2 ^ 32
 unfolding uploadStepBits
 step-bits-lt w = toBits-lt binary32 (uploadStep w) (step-fits w)
-
-pub value-of-bits : (w : ℕ) → ofBits binary32 (uploadValueBits w) ≡ uploadValue w
-unfolding uploadValueBits
-value-of-bits w = ofBits-toBits binary32 (uploadValue w) (value-fits w)
-
-pub step-of-bits : (w : ℕ) → ofBits binary32 (uploadStepBits w) ≡ uploadStep w
-unfolding uploadStepBits
-step-of-bits w = ofBits-toBits binary32 (uploadStep w) (step-fits w)

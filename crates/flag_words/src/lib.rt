@@ -1,11 +1,10 @@
 // The words that are made of flags: a bump's, a shadow's, a light's.
 use lighting::Bump;
-use lighting::Distance;
 use lighting::Light;
 use lighting::OptionalShadow;
 ghost use mathlib.Core.Path.{_≡_};
 ghost use Prim.Native.Nat.{_*_, _≤_};
-ghost use Rattle.block.specs.Words.{flagWord, bumpWord, shadowWord, isScaled, flagsWord};
+ghost use Rattle.block.specs.Words.{flagWord, bumpWord, shadowWord, flagsWord};
 ghost use Rattle.block.specs.Answers.{bumpUnit, shadowUnit};
 
 // `weight` where the flag is set.
@@ -51,15 +50,6 @@ pub fn shadow_word(shadow: OptionalShadow) -> u32
     }
 }
 
-fn is_scaled(distance: Distance) -> bool
-    ensures { λ r. ⌜ r ≡ isScaled distance ⌝ }
-{
-    match distance {
-        Distance::Without => false,
-        Distance::Scaled(_, _) => true,
-    }
-}
-
 pub fn flags_word(l: Light) -> u32
     ensures { λ r. ⌜ r ≡ flagsWord l ⌝ }
 {
@@ -68,7 +58,7 @@ pub fn flags_word(l: Light) -> u32
         + flag(l.two_sided, 2)
         + flag(l.geometric0, 4)
         + flag(l.geometric1, 8)
-        + flag(is_scaled(distance), 16)
+        + flag(block::is_scaled(distance), 16)
         + flag(l.spotlight, 32)
         + flag(l.shadowed, 64)
 }

@@ -1,17 +1,17 @@
 -- A slice has 4 n bytes exactly if its words are n, whole words or none being counted. So each of block shading's answers is that of the bytes: a refusal by
 -- its length, or what the block gives the fragment. Assumes nothing.
-use Prim.Native.Nat.{ℕ, zero, suc, _*_, _/_, _%_, _<_}
+use Prim.Native.Nat.{ℕ, _*_, _%_, _<_}
 use native.Mathlib.Omega.{arith}
 use mathlib.Core.Path.{_≡_, refl, sym, ap, subst, _∙_}
 use mathlib.Core.Bool.{Bool, true, false, cond}
 use mathlib.Core.List.{List, []}
 use lib.Dec.{eqb}
 use lib.ListN.{length}
-use borrow.Author.Tests.{eq-eqb, ne-eqb, eqb-true, eqb-false}
+use borrow.Author.Tests.{eq-eqb, eqb-true}
 use Rattle.sources.specs.Sources.{wordsOf, given}
 use Rattle.sources.specs.SourcesLaws.{length-words, given-bytes}
 use Rattle.answer_bytes.specs.Bytes.{bytesOf}
-use Rattle.block_shading.specs.BlockShading.{Shaded, shaded, eightOf, blockShading}
+use Rattle.block_shading.specs.BlockShading.{Shaded, shaded, eightOf}
 use Rattle.block_shading.specs.Answers.{isOff}
 use Rattle.block_shading.specs.AnswersLaws.{wrong-block, wrong-tables, wrong-fragment, wrong-answer, lit-answer, off-answer, bad-answer}
 use Rattle.block.specs.Formed.{words}

@@ -61,7 +61,7 @@ pub fn frame_of(l: Lighting, quaternion: [f32; 4], view: [f32; 3], texels: [[f32
     ensures { λ r. ⌜ r ≡ lightingFrame l quaternion view texels ⌝ }
 {
     let bump = l.bump;
-    let texel = texel_of(texels, shade_bump::bump_unit(bump));
+    let texel = texel_of(texels, block::bump_unit(bump));
     shade_surface::frame_of(bump, texel, l.config, l.needs_view, quaternion, view)
 }
 
@@ -70,7 +70,7 @@ pub fn shadow_of(l: Lighting, texels: [[f32; 4]; 4]) -> [f32; 4]
     ensures { λ r. ⌜ r ≡ lightingShadow l texels ⌝ }
 {
     let shadow = l.shadow;
-    let texel = texel_of(texels, shade_shadow::shadow_unit(shadow));
+    let texel = texel_of(texels, block::shadow_unit(shadow));
     shade_shadow::shadow_texel(shadow, texel)
 }
 

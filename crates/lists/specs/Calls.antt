@@ -3,7 +3,7 @@ use Prim.Native.Nat.{ℕ, _<_}
 use mathlib.Core.Path.{_≡_}
 use mathlib.Core.List.{List, [], _∷_}
 use lib.ListN.{length}
-use Rattle.lists.specs.States.{UnitState, CopyState, State, unitState, copyState, state, Implementation}
+use Rattle.lists.specs.States.{State, unitState, copyState, state, Implementation}
 
 -- the lengths that a call refuses
 abbrev pub ShortFile : ℕ → Type 0

@@ -1,9 +1,9 @@
 -- Demand 3 holds of our implementation, by induction over the list with a lemma for each kind of call: after an accepted hand-over the copy has the
 -- block of the machine's registers and the machine's entries. Assumes nothing.
-use Prim.Native.Nat.{ℕ, zero, suc, _+_, _≤_, _<_}
+use Prim.Native.Nat.{ℕ, zero, suc, _+_, _<_}
 use native.Mathlib.Omega.{arith}
 use native.Mathlib.Nat.{add-zero, add-suc, suc-add}
-use mathlib.Core.Path.{_≡_, refl, sym, ap, _∙_}
+use mathlib.Core.Path.{_≡_, sym, ap, _∙_}
 use mathlib.Core.List.{List, [], _∷_}
 use mathlib.Core.Bool.{Bool, true, false, cond}
 use lib.ListN.{length}
@@ -13,7 +13,7 @@ use Rattle.lists.specs.Ours.{ours}
 use Rattle.lists.specs.States.{State, fresh}
 use Rattle.lists.specs.Calls.{Call, step, run, answer}
 use Rattle.lists.specs.Calls.Call.{Write, Restore, Read, HandOver}
-use Rattle.lists.specs.Plain.{accepts, Machine, zeroMachine, plainStep, plainRun, plain}
+use Rattle.lists.specs.Plain.{accepts, Machine, plainStep, plainRun, plain}
 use Rattle.lists.specs.Claim.{HandsOver, EndsHandedOver, Demand3, Answered, Answers}
 use Rattle.lists.specs.Invariant.{Inv, Shows}
 use Rattle.lists.specs.InvariantLaws.{fresh-holds}

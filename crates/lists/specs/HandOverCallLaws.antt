@@ -1,11 +1,11 @@
 -- A hand-over keeps the invariant, and accepted leaves in the copy the block of the machine's registers and the machine's entries: the tables are
 -- taken where the generations differ, and where they do not they are equal already. Assumes nothing.
-use Prim.Native.Nat.{ℕ, zero, suc, _≤_, _<_}
+use Prim.Native.Nat.{ℕ, zero, suc}
 use native.Mathlib.Omega.{arith}
 use native.Mathlib.Nat.{le-refl}
-use mathlib.Core.Path.{_≡_, refl, sym, ap, _∙_, subst}
+use mathlib.Core.Path.{_≡_, refl, ap, _∙_, subst}
 use mathlib.Core.List.{List}
-use mathlib.Core.Bool.{Bool, true, false, cond, not, _&&_, false≢true}
+use mathlib.Core.Bool.{Bool, true, false, cond, false≢true}
 use lib.ListN.{length}
 use lib.Dec.{eqb, eqb·suc-zero}
 use borrow.Author.Tests.{eqb-true}
@@ -20,7 +20,7 @@ use Rattle.lists.specs.States.{State, unitState, copyState, state}
 use Rattle.lists.specs.Calls.{Lent, ShortFile, NotTables, NotBlock, lent, left, step, answer}
 use Rattle.lists.specs.Calls.Call.{HandOver}
 use Rattle.lists.specs.Calls.Lent.{own}
-use Rattle.lists.specs.Plain.{size, accepts, Machine, does, plainStep}
+use Rattle.lists.specs.Plain.{accepts, Machine, does, plainStep}
 use Rattle.lists.specs.LentLaws.{size-lent, left-lent, is-own}
 use Rattle.lists.specs.Invariant.{Inv, Shows}
 use Rattle.lists.specs.InvariantLaws.{stays}

@@ -1,14 +1,13 @@
 -- The invariant holds of what is fresh, stays over a call that changes nothing, and over one that changes the unit alone: the generation either
 -- stays with the tables, or passes the copy's. Assumes nothing.
-use Prim.Native.Nat.{ℕ, zero, suc, _+_, _≤_, _<_}
+use Prim.Native.Nat.{ℕ, zero, suc, _≤_, _<_}
 use native.Mathlib.Omega.{arith}
 use native.Mathlib.Nat.{le-refl}
 use mathlib.Core.Path.{_≡_, refl, sym, ap, _∙_}
 use mathlib.Core.List.{List, _∷_}
-use mathlib.Core.Logic.{_⊎_, inl, inr}
+use mathlib.Core.Logic.{inl, inr}
 use mathlib.Core.Bool.{false, false≢true}
-use lib.ListN.{length, take, replicate, length-replicate}
-use lib.Seq.{length-take-le}
+use lib.ListN.{take, replicate, length-replicate}
 use Rattle.tables.specs.Generation.{last}
 use Rattle.tables.specs.GenerationLaws.{below-last}
 use Rattle.unit.specs.Fresh.{freshCache}

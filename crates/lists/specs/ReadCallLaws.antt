@@ -6,7 +6,7 @@ use mathlib.Core.Path.{_≡_, refl, sym, ap, _∙_, subst}
 use mathlib.Core.List.{List, [], _∷_}
 use mathlib.Core.Logic.{inl}
 use mathlib.Core.Bool.{Bool, true, false, cond, _&&_, false≢true}
-use lib.ListN.{length, getD, take, drop}
+use lib.ListN.{length, take, drop}
 use lib.Seq.{getD-take, take-take}
 use lib.Dec.{leb, eqb, lit<, lit≤, eqb·suc-zero}
 use borrow.Author.Tests.{leb-true}
@@ -23,7 +23,7 @@ use Rattle.lists.specs.Ours.{ours}
 use Rattle.lists.specs.States.{State, unitState, state}
 use Rattle.lists.specs.Calls.{Lent, ShortFile, lent, step, answer}
 use Rattle.lists.specs.Calls.Call.{Read}
-use Rattle.lists.specs.Calls.Lent.{own, instead}
+use Rattle.lists.specs.Calls.Lent.{own}
 use Rattle.lists.specs.Plain.{accepts, Machine, does, plainStep}
 use Rattle.lists.specs.LentLaws.{size-lent, is-own}
 use Rattle.lists.specs.Invariant.{Sound, Inv}

@@ -1,26 +1,26 @@
 -- A register write keeps the invariant. Refused, neither unit nor machine changes; accepted, both take the word into the same register, or put the
 -- same entry where 1C5, which they share, names it. Assumes nothing.
-use Prim.Native.Nat.{ℕ, zero, suc, _+_, _≤_, _<_}
+use Prim.Native.Nat.{ℕ, zero, suc, _<_}
 use native.Mathlib.Omega.{arith}
 use mathlib.Core.Path.{_≡_, refl, sym, ap, ap₂, _∙_, subst}
 use mathlib.Core.List.{List}
-use mathlib.Core.Logic.{_⊎_, inl, inr}
+use mathlib.Core.Logic.{inl, inr}
 use mathlib.Core.Bool.{Bool, true, false, cond, _&&_}
-use lib.ListN.{length, getD, set, take, length-set}
+use lib.ListN.{length, set, length-set}
 use lib.Seq.{take-set-lt, getD-take}
 use lib.Dec.{ltb, leb, eqb, lit<, eqb·suc-zero}
 use Rattle.tables.specs.Upload.{isData, index, moved, put, changes}
 use Rattle.tables.specs.UploadLaws.{length-put, put-same}
 use Rattle.tables.specs.Generation.{raised}
-use Rattle.tables.specs.Write.{Wrote, wrote, writeRefusal, writeIf, write}
+use Rattle.tables.specs.Write.{Wrote, writeRefusal, writeIf, write}
 use Rattle.tables.specs.WriteLaws.{write-data, write-register, write-number}
 use Rattle.tables.specs.RefusalLaws.{write-lengths, write-test}
 use Rattle.lists.specs.Ours.{ours}
-use Rattle.lists.specs.States.{UnitState, State, unitState, state}
-use Rattle.lists.specs.Calls.{Call, Lent, ShortFile, NotTables, lent, left, step, answer}
+use Rattle.lists.specs.States.{State, unitState, state}
+use Rattle.lists.specs.Calls.{Lent, ShortFile, NotTables, lent, left, step, answer}
 use Rattle.lists.specs.Calls.Call.{Write}
 use Rattle.lists.specs.Calls.Lent.{own}
-use Rattle.lists.specs.Plain.{size, accepts, Machine, machine, plainWrite, does, plainStep}
+use Rattle.lists.specs.Plain.{accepts, Machine, machine, plainWrite, does, plainStep}
 use Rattle.lists.specs.LentLaws.{size-lent, left-lent, is-own}
 use Rattle.lists.specs.Invariant.{Rises, Matches, Inv}
 use Rattle.lists.specs.InvariantLaws.{stays, moves, not-last}

@@ -1,6 +1,6 @@
 -- Laws of `inUnits` for callers to cite. A value that binary32 holds is m * 2 ^ e for an m of at most 24 digits and an e of -149 or more, so it is m times a power of two of its smallest value;
 -- and it lies below 2 ^ 128, which is 2 ^ 277 of them. Assumes nothing.
-use mathlib.Core.Path.{_≡_, refl, sym, ap, _∙_, subst}
+use mathlib.Core.Path.{_≡_, refl, sym, ap, _∙_}
 use Prim.Native.Nat.{ℕ, zero, suc, _+_, _-_, _*_, _/_, _%_, _^_, _≤_, _<_}
 use native.Mathlib.Nat.{le-of-eq, lt-of-le-of-lt, lt-of-lt-of-le, lt-of-not-le, not-le-of-lt, zero-mul, mul-one, mul-assoc, mul-pos, mul-right-comm, mul-div-cancel, mul-lt-mul-of-pos-right, div-lt-iff-lt-mul}
 use native.Mathlib.Omega.{arith}
@@ -48,10 +48,6 @@ spread s (suc m) (negsuc k) h =
 
 pub units-are : (s : Bool) (m : ℕ) (e : ℤ) → T (fits binary32 (fin s m e)) → (j : ℕ) × (inUnits (fin s m e) ≡ m * 2 ^ j)
 units-are s m e h = let t = spread s m e h in (t .0, in-units (fin s m e) s (m * 2 ^ t .0) (t .1))
-
--- the division in `inUnits` leaves no remainder
-pub units-exact : (s : Bool) (m : ℕ) (e : ℤ) → T (fits binary32 (fin s m e)) → HasValue (fin s m e) s (inUnits (fin s m e)) (2 ^ 149)
-units-exact s m e h = let t = spread s m e h in subst (λ (z : ℕ). HasValue (fin s m e) s z (2 ^ 149)) (sym (in-units (fin s m e) s (m * 2 ^ t .0) (t .1))) (t .1)
 
 -- the infinities lie at 2 ^ 277 units
 pub units-below : (s : Bool) (m : ℕ) (e : ℤ) → T (fits binary32 (fin s m e)) → inUnits (fin s m e) < 2 ^ 277

@@ -1,19 +1,7 @@
-// The surface before it is turned: the texture unit that perturbs it, and the normal and the tangent that its texel gives.
+// The surface before it is turned: the normal and the tangent that a texel gives.
 ghost use mathlib.Core.Path.{_≡_};
-ghost use Rattle.block.specs.Answers.{bumpUnit};
 ghost use Rattle.shade_bump.specs.Bump.{perturbed as perturbedOf, rebuiltZ, rebuilt as rebuiltOf, surfaceNormal, surfaceTangent};
 use lighting::Bump;
-
-// 0 where there is none.
-pub fn bump_unit(bump: Bump) -> usize
-    ensures { λ r. ⌜ r ≡ bumpUnit bump ⌝ }
-{
-    match bump {
-        Bump::Flat => 0,
-        Bump::Normal(unit, _) => unit,
-        Bump::Tangent(unit) => unit,
-    }
-}
 
 fn perturbed(t: [f32; 4]) -> [f32; 3]
     ensures { λ r. ⌜ r ≡ perturbedOf t ⌝ }

@@ -1,5 +1,4 @@
 -- Where a light's distance is read. Definitions only.
-use Prim.Native.Nat.{ℕ}
 use lib.Ieee.{Float}
 use Rattle.binary32.specs.Numbers.{float0, float1}
 use Rattle.binary32.specs.Order.{clampOf}

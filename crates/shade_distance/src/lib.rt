@@ -23,7 +23,11 @@ pub fn distance_reading(light: Light, away: f32) -> Reading
         Distance::Without => Reading::Unread,
         Distance::Scaled(bias, scale) => {
             let place = distance_place(bias, scale, away);
-            Reading::At(table_for(16, number), place.entry, place.delta)
+            Reading::At(
+                table_for(configuration::DISTANCE, number),
+                place.entry,
+                place.delta,
+            )
         }
     }
 }

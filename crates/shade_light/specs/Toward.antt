@@ -6,7 +6,7 @@ use Rattle.root.specs.Root.{rootOf}
 use Rattle.vectors.specs.Vectors.{at, _⊖_, plusOf, dotOf, normalizedOf}
 use Rattle.lighting.specs.declared.Light.{Light}
 use Rattle.shade_types.specs.declared.Frame.{Frame}
-use Rattle.shade_surface.specs.Surface.{zero3}
+use Rattle.lighting.specs.Blank.{zeroVector}
 use Rattle.shade_types.specs.declared.Toward.{Toward}
 
 -- ---- the vectors
@@ -16,7 +16,7 @@ lightVector light view =
     cond (light .directional) (light .direction) (normalizedOf (plusOf (light .position) view))
 
 unfoldable pub halfOf : Bool → List Float → List Float → List Float
-halfOf needed normView lightVector = cond needed (plusOf normView lightVector) zero3
+halfOf needed normView lightVector = cond needed (plusOf normView lightVector) zeroVector
 
 abbrev pub towardBy : List Float → Frame → Bool → Toward
 towardBy lightVector frame needed = record { «light_vector» = lightVector; half = halfOf needed (frame .«norm_view») lightVector }

@@ -1,24 +1,13 @@
 // The way to a light, and the vectors that it gives: toward the light, and half between the light and the view.
 ghost use mathlib.Core.Path.{_≡_};
-ghost use Rattle.block.specs.Words.{isScaled};
 ghost use Rattle.root.specs.Root.{rootOf};
 ghost use Rattle.vectors.specs.Vectors.{dotOf};
 ghost use Rattle.shade_light.specs.Toward.{halfOf, towardBy};
 ghost use Rattle.shade_light.specs.Way.{wayTo};
-use lighting::Distance;
 use lighting::Light;
 use shade_types::Frame;
 use shade_types::Toward;
 use shade_types::Way;
-
-fn scaled(distance: Distance) -> bool
-    ensures { λ r. ⌜ r ≡ isScaled distance ⌝ }
-{
-    match distance {
-        Distance::Without => false,
-        Distance::Scaled(_, _) => true,
-    }
-}
 
 fn length_of(v: [f32; 3]) -> f32
     ensures { λ r. ⌜ r ≡ rootOf (dotOf v v) ⌝ }
@@ -34,7 +23,7 @@ pub fn way_to(light: Light, view: [f32; 3]) -> Way
     let direction = light.direction;
     let distance = light.distance;
     if light.directional {
-        if scaled(distance) {
+        if block::is_scaled(distance) {
             return Way {
                 vector: direction,
                 length: length_of(vectors::plus(position, view)),

@@ -1,6 +1,13 @@
 // Where one light reads its lookups. The reading itself is not here, since a caller may have the tables as words or as bytes.
 ghost use mathlib.Core.Path.{_≡_};
 ghost use Rattle.shade_lookups.specs.Readings.{spotReading, fresnelReading, readingsBy, readingsOf};
+use configuration::DISTRIBUTION0;
+use configuration::DISTRIBUTION1;
+use configuration::FRESNEL;
+use configuration::REFLECT_BLUE;
+use configuration::REFLECT_GREEN;
+use configuration::REFLECT_RED;
+use configuration::SPOTLIGHT;
 use lighting::Light;
 use lighting::Lookup;
 use lighting::OptionalLookup;
@@ -18,7 +25,12 @@ fn spot_reading(light: Light, lookup: Lookup, inputs: [f32; 8]) -> Reading
 {
     let number = light.number;
     if light.spotlight {
-        reading_by(table_for(8, number), lookup, light.two_sided, inputs)
+        reading_by(
+            table_for(SPOTLIGHT, number),
+            lookup,
+            light.two_sided,
+            inputs,
+        )
     } else {
         Reading::Unread
     }
@@ -29,7 +41,7 @@ fn fresnel_reading(last: bool, lookup: OptionalLookup, both: bool, inputs: [f32;
     ensures { λ r. ⌜ r ≡ fresnelReading last lookup both inputs ⌝ }
 {
     if last {
-        reading_if(3, lookup, both, inputs)
+        reading_if(FRESNEL, lookup, both, inputs)
     } else {
         Reading::Unread
     }
@@ -48,11 +60,11 @@ fn readings_by(lookups: Lookups, light: Light, inputs: [f32; 8], last: bool) -> 
     let both = light.two_sided;
     Readings {
         spot: spot_reading(light, spotlight, inputs),
-        distribution0: reading_if(0, a, both, inputs),
-        red: reading_if(6, d, both, inputs),
-        green: reading_if(5, e, both, inputs),
-        blue: reading_if(4, f, both, inputs),
-        distribution1: reading_if(1, b, both, inputs),
+        distribution0: reading_if(DISTRIBUTION0, a, both, inputs),
+        red: reading_if(REFLECT_RED, d, both, inputs),
+        green: reading_if(REFLECT_GREEN, e, both, inputs),
+        blue: reading_if(REFLECT_BLUE, f, both, inputs),
+        distribution1: reading_if(DISTRIBUTION1, b, both, inputs),
         fresnel: fresnel_reading(last, c, both, inputs),
     }
 }

@@ -1,18 +1,7 @@
-// A draw's shadow: the texture unit that holds it, what its texel gives, and what it applies to.
+// A draw's shadow: what its texel gives, and what it applies to.
 ghost use mathlib.Core.Path.{_≡_};
-ghost use Rattle.block.specs.Answers.{shadowUnit};
 ghost use Rattle.shade_shadow.specs.Shadow.{inverted as invertedOf, shadowTexel, primaryOf, secondaryOf, alphaOf};
 use lighting::OptionalShadow;
-
-// 0 where there is none.
-pub fn shadow_unit(shadow: OptionalShadow) -> usize
-    ensures { λ r. ⌜ r ≡ shadowUnit shadow ⌝ }
-{
-    match shadow {
-        OptionalShadow::Unshadowed => 0,
-        OptionalShadow::Shadowed(s) => s.unit,
-    }
-}
 
 fn inverted(invert: bool, t: [f32; 4]) -> [f32; 4]
     ensures { λ r. ⌜ r ≡ invertedOf invert t ⌝ }

@@ -9,11 +9,9 @@ use Rattle.root.specs.Root.{rootOf}
 use Rattle.binary32.specs.Numbers.{float0, float1}
 use Rattle.vectors.specs.Vectors.{at, _⊕_, _⊗_, _⊘_, normalizedOf, rotateOf}
 use Rattle.lighting.specs.declared.Bump.{Bump}
+use Rattle.lighting.specs.Blank.{zeroVector}
 use Rattle.shade_types.specs.declared.Frame.{Frame}
 use Rattle.shade_bump.specs.Bump.{surfaceNormal, surfaceTangent}
-
-abbrev pub zero3 : List Float
-zero3 = float0 ∷ float0 ∷ float0 ∷ []
 
 -- ---- the quaternion
 
@@ -38,7 +36,7 @@ tangentOf config quaternion tangent = cond (eqb config 8) (rotateOf quaternion t
 
 -- a vector that nothing reads is left at zero
 unfoldable pub unitIf : Bool → List Float → List Float
-unitIf needed v = cond needed (normalizedOf v) zero3
+unitIf needed v = cond needed (normalizedOf v) zeroVector
 
 unfoldable pub frameOf : Bump → List Float → ℕ → Bool → List Float → List Float → Frame
 frameOf bump texel config needed quaternion view =

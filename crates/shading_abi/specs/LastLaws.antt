@@ -1,16 +1,15 @@
 -- A list of at least 23 words has a last fragment, of 23 words, and a shorter one has none. And the lighting of a well-formed block is in range, since the
 -- check of the words is that of what they read as. Assumes nothing.
-use Prim.Native.Nat.{ℕ, zero, suc, _+_, _-_, _*_, _/_, _<_, _≤_, min}
+use Prim.Native.Nat.{ℕ, _+_, _-_, _*_, _/_, _<_, _≤_}
 use native.Mathlib.Omega.{arith}
-use mathlib.Core.Path.{_≡_, refl, sym, ap, _∙_}
-use mathlib.Core.Bool.{Bool, true}
+use mathlib.Core.Path.{_≡_, refl, ap, _∙_}
+use mathlib.Core.Bool.{true}
 use mathlib.Core.List.{List}
 use lib.Dec.{leb, ltb}
 use lib.ListN.{length, take, drop, length-take, length-drop}
 use lib.Seq.{length-take-le}
 use borrow.Author.Tests.{lt-ltb, ltb-true, leb-true, le-leb}
 use Rattle.lighting.specs.declared.Light.{Light}
-use Rattle.lighting.specs.declared.Lighting.{Lighting}
 use Rattle.block.specs.Words.{lightAt}
 use Rattle.block.specs.Formed.{from, slotAt, every, wellFormed}
 use Rattle.block.specs.FormedLaws.{Formed, formed-parts}

@@ -8,7 +8,6 @@ use mathlib.Core.List.{List}
 use lib.ListN.{getD}
 use lib.Ieee.{Float}
 use borrow.Author.Tests.{lt-ltb, ltb-true}
-use Rattle.lighting.specs.declared.Light.{Light}
 use Rattle.lighting.specs.Blank.{blankLight}
 use Rattle.block.specs.Words.{noLight}
 use Rattle.block.specs.Formed.{from, slotAt, wellFormed}

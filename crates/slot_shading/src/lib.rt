@@ -38,7 +38,7 @@ fn frame_of(l: Lighting, fragment: &[u32], bytes: &[u8]) -> Frame
     let bump = l.bump;
     let quaternion = fragments::quaternion_of(fragment, bytes);
     let view = fragments::view_of(fragment, bytes);
-    let texel = fragments::texel_at(fragment, bytes, shade_bump::bump_unit(bump));
+    let texel = fragments::texel_at(fragment, bytes, block::bump_unit(bump));
     shade_surface::frame_of(bump, texel, l.config, l.needs_view, quaternion, view)
 }
 
@@ -47,7 +47,7 @@ fn shadow_of(l: Lighting, fragment: &[u32], bytes: &[u8]) -> [f32; 4]
     ensures { λ r. ⌜ r ≡ lightingShadow l (texelsOf (given (now (fragment .entry)) (now (bytes .entry)))) ⌝ }
 {
     let shadow = l.shadow;
-    let texel = fragments::texel_at(fragment, bytes, shade_shadow::shadow_unit(shadow));
+    let texel = fragments::texel_at(fragment, bytes, block::shadow_unit(shadow));
     shade_shadow::shadow_texel(shadow, texel)
 }
 

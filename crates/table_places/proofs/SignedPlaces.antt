@@ -7,7 +7,7 @@ use native.Mathlib.Nat.{le-of-lt, le-trans, le-of-suc-le-suc, le-div-iff-mul-le,
 use native.Mathlib.Omega.{arith}
 use borrow.Author.Tests.{ltb-true, ltb-false, lt-ltb}
 use lib.IntN.{ℤ}
-use lib.Dec.{T, ltb, leb→le, le→leb, lt→ltb, lit≤}
+use lib.Dec.{T, ltb, le→leb, lt→ltb, lit≤}
 use lib.Ieee.{Float, nan, inf, fin, binary32, up, down, minus, round, neg, add, sub, lt, ofInt, inFloat, toSigned, fits, isNan, ofBits}
 use lib.Ieee.Back.{positive-back, negative-back}
 use lib.Ieee.Exact.{HasValue}

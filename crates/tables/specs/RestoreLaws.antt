@@ -1,14 +1,11 @@
 -- Laws of restore and save. A restore is refused or gives the saved words, told by `restore-cases`, and the other laws go through these. Assumes nothing.
-use Prim.Native.Nat.{ℕ, zero, suc, _+_, _≤_}
-use native.Mathlib.Omega.{arith}
-use native.Mathlib.Nat.{le-refl}
-use mathlib.Core.Path.{_≡_, refl, sym, _∙_}
+use Prim.Native.Nat.{ℕ, zero, suc, _+_}
+use mathlib.Core.Path.{_≡_, refl}
 use mathlib.Core.List.{List}
 use mathlib.Core.Logic.{_⊎_, inl, inr}
 use mathlib.Core.Bool.{Bool, true, false, cond}
 use lib.ListN.{length}
 use Rattle.refusals.specs.Lengths.{tablesRefusal, savedRefusal}
-use Rattle.tables.specs.Words.{Words}
 use Rattle.tables.specs.Generation.{last}
 use Rattle.tables.specs.RefusalLaws.{restore-lengths}
 use Rattle.tables.specs.Restore.{Restored, restored, restoreRefusal, restoreIf, restore, saved, saveRefusal, saveIf, save}
@@ -32,38 +29,12 @@ restore-cases P t g s refused done = go (restoreRefusal (length t) s) refl
     go (suc k) e = refused k
 
 module _ (t : List ℕ) (g : ℕ) (s : List ℕ) where
-  -- a refused restore changes nothing
-  pub restore-refused : (restore t g s .number ≡ 0 → ⊥) → restore t g s ≡ restored (restore t g s .number) t g
-  restore-refused =
-      restore-cases (λ w. (w .number ≡ 0 → ⊥) → w ≡ restored (w .number) t g) t g s (λ k h. refl) (λ a b h. absurd (h refl))
-
-  -- one that is done leaves the saved words and raises the generation
-  pub restore-done : restore t g s .number ≡ 0 → (length s ≡ 12288) × (restore t g s ≡ restored 0 s (g + 1))
-  restore-done =
-      restore-cases (λ w. w .number ≡ 0 → (length s ≡ 12288) × (w ≡ restored 0 s (g + 1))) t g s
-      (λ k h. absurd (omega arith))
-      (λ a b h. (b, refl))
-
-  -- no length changes, and words stay words
-  pub restore-length : length (restore t g s .tables) ≡ length t
-  restore-length =
-      restore-cases (λ w. length (w .tables) ≡ length t) t g s (λ k. refl) (λ a b. b ∙ sym a)
-
-  pub restore-words : Words t → Words s → Words (restore t g s .tables)
-  restore-words p q = restore-cases (λ w. Words (w .tables)) t g s (λ k. p) (λ a b. q)
-
   -- the generation stays with the tables, or rises by one
   pub restore-generation : ((restore t g s .generation ≡ g) × (restore t g s .tables ≡ t)) ⊎ ((restore t g s .generation ≡ g + 1) × (restore t g s .tables ≡ s))
   restore-generation =
       restore-cases (λ w. ((w .generation ≡ g) × (w .tables ≡ t)) ⊎ ((w .generation ≡ g + 1) × (w .tables ≡ s))) t g s
       (λ k. inl (refl, refl))
       (λ a b. inr (refl, refl))
-
-  pub restore-within : (g ≤ restore t g s .generation) × (restore t g s .generation ≤ g + 1)
-  restore-within =
-      restore-cases (λ w. (g ≤ w .generation) × (w .generation ≤ g + 1)) t g s
-      (λ k. (le-refl g, omega arith))
-      (λ a b. (omega arith, le-refl (g + 1)))
 
   -- below the last generation 4 is not met
   pub restore-number : last g ≡ false → restore t g s .number ≡ restoreRefusal (length t) s

@@ -97,11 +97,3 @@ pub words-putEntry : (t : List ℕ) (i v : ℕ) → Words t → Words (putEntry 
 unfolding putEntry
 words-putEntry t i v w =
     words-set (set t (place i) (uploadValueBits v)) (place i + 1) (uploadStepBits v) (step-bits-lt v) (words-set t (place i) (uploadValueBits v) (value-bits-lt v) w)
-
-words-cond : (b : Bool) (x t : List ℕ) → Words x → Words t → Words (cond b x t)
-words-cond true x t p q = p
-words-cond false x t p q = q
-
-pub words-put : (t : List ℕ) (i v : ℕ) → Words t → Words (put t i v)
-unfolding put
-words-put t i v w = words-cond (stored i) (putEntry t i v) t (words-putEntry t i v w) w

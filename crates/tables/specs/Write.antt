@@ -1,6 +1,5 @@
 -- The register write, on lists of words, with its refusals in document 01's order. Definitions only.
-use Prim.Native.Nat.{ℕ, zero, suc, _<_, _≤_}
-use mathlib.Core.Path.{_≡_}
+use Prim.Native.Nat.{ℕ, zero, suc}
 use mathlib.Core.List.{List}
 use mathlib.Core.Bool.{cond, _&&_}
 use lib.ListN.{length, set}
@@ -22,12 +21,6 @@ wrote k f t g = record { number = k; file = f; tables = t; generation = g }
 abbrev pub writeRefusal : ℕ → ℕ → ℕ → ℕ
 writeRefusal file tables register =
     fileRefusal file else tablesRefusal tables else registerRefusal register
-
--- the lengths and the register that a write past those has
-pub record Accepted (f t : List ℕ) (r : ℕ) : Type 0 where
-  pub whole : 474 ≤ length f
-  pub full : length t ≡ 12288
-  pub low : r < 474
 
 -- the word v of table data: 4 where an entry would change and the generation cannot rise
 unfoldable pub upload : List ℕ → List ℕ → ℕ → ℕ → Wrote

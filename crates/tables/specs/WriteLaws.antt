@@ -1,23 +1,25 @@
 -- Laws of the register write. It ends in one of four ways, told by `write-cases`, and the other laws go through these. Assumes nothing.
 use Prim.Native.Nat.{ℕ, zero, suc, _+_, _<_, _≤_}
-use native.Mathlib.Omega.{arith}
-use native.Mathlib.Nat.{le-refl}
 use mathlib.Core.Path.{_≡_, refl, sym, ap, _∙_}
 use mathlib.Core.List.{List}
 use mathlib.Core.Logic.{_⊎_, inl, inr}
 use mathlib.Core.Bool.{Bool, true, false, cond, _&&_, and-false, true≢false}
-use lib.ListN.{length, set, take, drop, length-set}
+use lib.ListN.{length, set, take, drop}
 use lib.Seq.{getD-take, take-set-lt, drop-set-lt, length-take-le}
 use lib.Dec.{lit<}
 use borrow.Author.Tests.{le-leb}
 use Rattle.refusals.specs.Lengths.{fileRefusal, tablesRefusal, registerRefusal, _else_}
-use Rattle.tables.specs.Words.{Words}
-use Rattle.tables.specs.WordsLaws.{words-set}
 use Rattle.tables.specs.Upload.{isData, index, moved, movedOn, putEntry, put, changes}
-use Rattle.tables.specs.UploadLaws.{moved-word, length-putEntry, put-same, put-changed, putEntry-differs, words-putEntry}
+use Rattle.tables.specs.UploadLaws.{put-same, put-changed, putEntry-differs}
 use Rattle.tables.specs.Generation.{last, raised}
 use Rattle.tables.specs.RefusalLaws.{write-lengths}
-use Rattle.tables.specs.Write.{Wrote, wrote, Accepted, writeRefusal, upload, writeIf, write}
+use Rattle.tables.specs.Write.{Wrote, wrote, writeRefusal, upload, writeIf, write}
+
+-- the lengths and the register that a write past 1, 2 and 3 has
+pub record Accepted (f t : List ℕ) (r : ℕ) : Type 0 where
+  pub whole : 474 ≤ length f
+  pub full : length t ≡ 12288
+  pub low : r < 474
 
 -- an upload by its three cases
 pub upload-same : (f t : List ℕ) (g v : ℕ) → changes t (index f) v ≡ false → upload f t g v ≡ wrote 0 (movedOn f) t g
@@ -69,58 +71,6 @@ module _ (P : Wrote → Type 0) (f t : List ℕ) (g r v : ℕ) where
       go (suc k) e = refused k
 
 module _ (f t : List ℕ) (g r v : ℕ) where
-  -- a refused write changes nothing
-  pub write-refused : (write f t g r v .number ≡ 0 → ⊥) → write f t g r v ≡ wrote (write f t g r v .number) f t g
-  write-refused =
-      write-cases (λ w. (w .number ≡ 0 → ⊥) → w ≡ wrote (w .number) f t g) f t g r v
-      (λ k h. refl)
-      (λ a d h. absurd (h refl))
-      (λ a d e h. absurd (h refl))
-      (λ a d e l h. absurd (h refl))
-
-  -- one that is done had its lengths and its register
-  pub write-done : write f t g r v .number ≡ 0 → Accepted f t r
-  write-done =
-      write-cases (λ w. w .number ≡ 0 → Accepted f t r) f t g r v
-      (λ k h. absurd (omega arith))
-      (λ a d h. a)
-      (λ a d e h. a)
-      (λ a d e l h. a)
-
-  -- no length changes
-  pub write-file-length : length (write f t g r v .file) ≡ length f
-  write-file-length =
-      write-cases (λ w. length (w .file) ≡ length f) f t g r v
-      (λ k. refl)
-      (λ a d. length-set f r v)
-      (λ a d e. length-set f 0x1C5 (moved (index f)))
-      (λ a d e l. length-set f 0x1C5 (moved (index f)))
-
-  pub write-tables-length : length (write f t g r v .tables) ≡ length t
-  write-tables-length =
-      write-cases (λ w. length (w .tables) ≡ length t) f t g r v
-      (λ k. refl)
-      (λ a d. refl)
-      (λ a d e. refl)
-      (λ a d e l. length-putEntry t (index f) v)
-
-  -- words stay words
-  pub write-file-words : v < 0x100000000 → Words f → Words (write f t g r v .file)
-  write-file-words h w =
-      write-cases (λ x. Words (x .file)) f t g r v
-      (λ k. w)
-      (λ a d. words-set f r v h w)
-      (λ a d e. words-set f 0x1C5 (moved (index f)) (moved-word (index f) (w 0x1C5)) w)
-      (λ a d e l. words-set f 0x1C5 (moved (index f)) (moved-word (index f) (w 0x1C5)) w)
-
-  pub write-tables-words : Words t → Words (write f t g r v .tables)
-  write-tables-words w =
-      write-cases (λ x. Words (x .tables)) f t g r v
-      (λ k. w)
-      (λ a d. w)
-      (λ a d e. w)
-      (λ a d e l. words-putEntry t (index f) v w)
-
   -- the generation stays with the tables, or rises by one with an entry that changes
   pub write-generation : ((write f t g r v .generation ≡ g) × (write f t g r v .tables ≡ t)) ⊎ ((write f t g r v .generation ≡ g + 1) × (write f t g r v .tables ≡ t → ⊥))
   write-generation =
@@ -129,15 +79,6 @@ module _ (f t : List ℕ) (g r v : ℕ) where
       (λ a d. inl (refl, refl))
       (λ a d e. inl (refl, refl))
       (λ a d e l. inr (refl, putEntry-differs t (index f) v (a .full) e))
-
-  -- it never falls, and rises by one at most
-  pub write-within : (g ≤ write f t g r v .generation) × (write f t g r v .generation ≤ g + 1)
-  write-within =
-      write-cases (λ w. (g ≤ w .generation) × (w .generation ≤ g + 1)) f t g r v
-      (λ k. (le-refl g, omega arith))
-      (λ a d. (le-refl g, omega arith))
-      (λ a d e. (le-refl g, omega arith))
-      (λ a d e l. (omega arith, le-refl (g + 1)))
 
   -- outside 1C8 to 1CF no entry is touched
   pub write-elsewhere : isData r ≡ false → (write f t g r v .tables ≡ t) × (write f t g r v .generation ≡ g)

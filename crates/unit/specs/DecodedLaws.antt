@@ -1,6 +1,6 @@
 -- Every decoded lighting that is on is packed, and its block reads back as the lighting: it lies within the limits that packing asks for.
 -- Assumes nothing.
-use Prim.Native.Nat.{ℕ, _≤_, _<_}
+use Prim.Native.Nat.{ℕ, _≤_}
 use native.Mathlib.Omega.{arith}
 use mathlib.Core.Path.{_≡_, refl, _∙_}
 use mathlib.Core.List.{List}
@@ -24,7 +24,6 @@ use Rattle.lighting.specs.declared.Light.{Light}
 use Rattle.lighting.specs.declared.Lighting.{Lighting}
 use Rattle.lighting.specs.declared.OptionalLighting.{OptionalLighting}
 use Rattle.lights.specs.Claims.{LightFits, DistanceFits}
-use Rattle.lookups.specs.Tables.{scaleOf}
 use Rattle.register_lighting.specs.Lighting.{lightingOf}
 use Rattle.lighting.specs.Blank.{off}
 use Rattle.decoding.specs.Decode.{lightingOn, decoded}
@@ -34,7 +33,8 @@ use Rattle.block.specs.Words.{noLight, lightAt, packed}
 use Rattle.block.specs.Formed.{words, every, zeros, allZero, scaleFormed}
 use Rattle.block.specs.Reading.{blockReading}
 use Rattle.block.specs.Answers.{bumpUnit, shadowUnit, numbersFit, inRange, accepted, packedReading}
-use Rattle.block.specs.Claims.{Vector as BlockVector, DistanceHeld, LookupHeld, LightHeld, Held, BlankBeyond, lookupFine, optionalLookupFine, fine}
+use Rattle.block.specs.Acceptable.{lookupAcceptable, optionalLookupAcceptable, acceptable}
+use Rattle.block.specs.Claims.{Vector as BlockVector, DistanceHeld, LookupHeld, LightHeld, Held, BlankBeyond}
 use Rattle.block.specs.TestLaws.{_also_, every-of}
 use Rattle.block.specs.ListLaws.{length-packed}
 use Rattle.block.specs.PackedLaws.{packed-reads}
@@ -73,14 +73,14 @@ unfolding scaleFormed toBits ofBits
 scale-formed x h =
     rw (h .is) (scale-each (λ (y : Float). scaleFormed (wordOf y) ≡ true) refl refl refl refl refl refl refl (h .code))
 
-lookup-fine : (l : Lookup) → LookupLimits l → lookupFine l ≡ true
-unfolding lookupFine
-lookup-fine l h = lt-ltb (l .input) 8 (h .input) also scale-formed (l .scale) (h .scale)
+lookup-acceptable : (l : Lookup) → LookupLimits l → lookupAcceptable l ≡ true
+unfolding lookupAcceptable
+lookup-acceptable l h = lt-ltb (l .input) 8 (h .input) also scale-formed (l .scale) (h .scale)
 
-optional-fine : (o : OptionalLookup) → OptionalLookupLimits o → optionalLookupFine o ≡ true
-unfolding optionalLookupFine
-optional-fine Missing h = refl
-optional-fine (Present l) h = lookup-fine l h
+optional-acceptable : (o : OptionalLookup) → OptionalLookupLimits o → optionalLookupAcceptable o ≡ true
+unfolding optionalLookupAcceptable
+optional-acceptable Missing h = refl
+optional-acceptable (Present l) h = lookup-acceptable l h
 
 bump-unit : (b : Bump) → BumpLimits b → bumpUnit b ≤ 3
 unfolding bumpUnit
@@ -127,17 +127,17 @@ module _ (l : Lighting) (h : Limits l) where
   limits-blank s p k = h .lights s noLight p .blank k
 
   limits-accepted : accepted l ≡ true
-  unfolding fine
+  unfolding acceptable
   limits-accepted =
       accepted-is l limits-held
       ∙ (lt-ltb (l .config) 16 (omega arith)
-      also optional-fine (l .distribution0) (h .distribution0)
-      also optional-fine (l .distribution1) (h .distribution1)
-      also optional-fine (l .fresnel) (h .fresnel)
-      also optional-fine (l .«reflect_red») (h .red)
-      also optional-fine (l .«reflect_green») (h .green)
-      also optional-fine (l .«reflect_blue») (h .blue)
-      also lookup-fine (l .spotlight) (h .spotlight)
+      also optional-acceptable (l .distribution0) (h .distribution0)
+      also optional-acceptable (l .distribution1) (h .distribution1)
+      also optional-acceptable (l .fresnel) (h .fresnel)
+      also optional-acceptable (l .«reflect_red») (h .red)
+      also optional-acceptable (l .«reflect_green») (h .green)
+      also optional-acceptable (l .«reflect_blue») (h .blue)
+      also lookup-acceptable (l .spotlight) (h .spotlight)
       also half-view (l .«needs_half») (l .«needs_view») (h .half-view)
       also limits-range)
 

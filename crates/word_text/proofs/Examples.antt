@@ -1,5 +1,4 @@
 -- Closed runs of the definitions, by computation: a word after a gap, one after a remark, a byte that is no digit, a text with nothing left. Assumes nothing.
-use Prim.Native.Nat.{ℕ}
 use mathlib.Core.Path.{_≡_, refl}
 use mathlib.Core.List.{[], _∷_}
 use mathlib.Core.Bool.{false}

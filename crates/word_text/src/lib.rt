@@ -88,7 +88,7 @@ fn in_remark(remark: bool, b: u8) -> bool
 }
 
 // The first word from `at` on, which is not in a remark.
-pub fn next_word(text: &[u8], at: usize) -> Next
+fn next_word(text: &[u8], at: usize) -> Next
     ensures { λ r. ⌜ r ≡ nextOf false (drop at (now (text .entry))) at ⌝ }
 {
     let mut remark = false;

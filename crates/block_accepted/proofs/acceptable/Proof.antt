@@ -1,46 +1,46 @@
--- `block_accepted::acceptable` meets its contract: it is what is fine of a lighting, and that is what is accepted. Assumes nothing.
+-- `block_accepted::acceptable` meets its contract: it is what is acceptable of a lighting, and that is what is accepted. Assumes nothing.
 use borrow.Author.Needs.{needs}
-use Rattle.block_accepted.proofs.Cases.{fine-made}
+use Rattle.block_accepted.proofs.Cases.{acceptable-made}
 use Rattle.block_accepted.proofs.acceptable.Statement.{statement}
 use Rattle.block_accepted.proofs.acceptable.Tie as tie
 
 lighting-held-requires : tie.Need-lighting-held-requires
 lighting-held-requires c κs = search needs
 
-optional-lookup-fine-requires : tie.Need-optional-lookup-fine-requires
-optional-lookup-fine-requires c κs = search needs
+optional-lookup-acceptable-requires : tie.Need-optional-lookup-acceptable-requires
+optional-lookup-acceptable-requires c κs = search needs
 
-optional-lookup-fine-requires-2 : tie.Need-optional-lookup-fine-requires-2
-optional-lookup-fine-requires-2 c κs = search needs
+optional-lookup-acceptable-requires-2 : tie.Need-optional-lookup-acceptable-requires-2
+optional-lookup-acceptable-requires-2 c κs = search needs
 
-optional-lookup-fine-requires-3 : tie.Need-optional-lookup-fine-requires-3
-optional-lookup-fine-requires-3 c κs = search needs
+optional-lookup-acceptable-requires-3 : tie.Need-optional-lookup-acceptable-requires-3
+optional-lookup-acceptable-requires-3 c κs = search needs
 
-optional-lookup-fine-requires-4 : tie.Need-optional-lookup-fine-requires-4
-optional-lookup-fine-requires-4 c κs = search needs
+optional-lookup-acceptable-requires-4 : tie.Need-optional-lookup-acceptable-requires-4
+optional-lookup-acceptable-requires-4 c κs = search needs
 
-optional-lookup-fine-requires-5 : tie.Need-optional-lookup-fine-requires-5
-optional-lookup-fine-requires-5 c κs = search needs
+optional-lookup-acceptable-requires-5 : tie.Need-optional-lookup-acceptable-requires-5
+optional-lookup-acceptable-requires-5 c κs = search needs
 
-optional-lookup-fine-requires-6 : tie.Need-optional-lookup-fine-requires-6
-optional-lookup-fine-requires-6 c κs = search needs
+optional-lookup-acceptable-requires-6 : tie.Need-optional-lookup-acceptable-requires-6
+optional-lookup-acceptable-requires-6 c κs = search needs
 
-lookup-fine-requires : tie.Need-lookup-fine-requires
-lookup-fine-requires c κs = search needs
+lookup-acceptable-requires : tie.Need-lookup-acceptable-requires
+lookup-acceptable-requires c κs = search needs
 
 in-range-requires : tie.Need-in-range-requires
 in-range-requires c κs = search needs
 
 returns : tie.Need-returns
-returns c = fine-made _ _ _ _ _ _ _ _ _
+returns c = acceptable-made _ _ _ _ _ _ _ _ _
     (c .before .before .before .before .before .before .before .before .before .before .before .lighting-held .ensures)
-    (c .before .before .before .before .before .before .before .before .before .optional-lookup-fine .ensures)
-    (c .before .before .before .before .before .before .before .before .optional-lookup-fine2 .ensures)
-    (c .before .before .before .before .before .before .before .optional-lookup-fine3 .ensures)
-    (c .before .before .before .before .before .before .optional-lookup-fine4 .ensures)
-    (c .before .before .before .before .before .optional-lookup-fine5 .ensures)
-    (c .before .before .before .before .optional-lookup-fine6 .ensures)
-    (c .before .before .before .lookup-fine .ensures)
+    (c .before .before .before .before .before .before .before .before .before .optional-lookup-acceptable .ensures)
+    (c .before .before .before .before .before .before .before .before .optional-lookup-acceptable2 .ensures)
+    (c .before .before .before .before .before .before .before .optional-lookup-acceptable3 .ensures)
+    (c .before .before .before .before .before .before .optional-lookup-acceptable4 .ensures)
+    (c .before .before .before .before .before .optional-lookup-acceptable5 .ensures)
+    (c .before .before .before .before .optional-lookup-acceptable6 .ensures)
+    (c .before .before .before .lookup-acceptable .ensures)
     (c .in-range .ensures)
 
 pub acceptable-spec : {M : Type 1} → statement M
@@ -48,12 +48,12 @@ acceptable-spec =
     tie.close
     (tie.spec
     lighting-held-requires
-    optional-lookup-fine-requires
-    optional-lookup-fine-requires-2
-    optional-lookup-fine-requires-3
-    optional-lookup-fine-requires-4
-    optional-lookup-fine-requires-5
-    optional-lookup-fine-requires-6
-    lookup-fine-requires
+    optional-lookup-acceptable-requires
+    optional-lookup-acceptable-requires-2
+    optional-lookup-acceptable-requires-3
+    optional-lookup-acceptable-requires-4
+    optional-lookup-acceptable-requires-5
+    optional-lookup-acceptable-requires-6
+    lookup-acceptable-requires
     in-range-requires
     returns)

@@ -8,19 +8,19 @@ use Rattle.block_accepted.proofs.in_range.Tie as tie
 returns : tie.Need-returns
 returns c = count-fails _ (lt-leb _ _ (c .if1 .taken))
 
-unit-of-bump-requires : tie.Need-unit-of-bump-requires
-unit-of-bump-requires c κs = search needs
+bump-unit-requires : tie.Need-bump-unit-requires
+bump-unit-requires c κs = search needs
 
-unit-of-shadow-requires : tie.Need-unit-of-shadow-requires
-unit-of-shadow-requires c κs = search needs
+shadow-unit-requires : tie.Need-shadow-unit-requires
+shadow-unit-requires c κs = search needs
 
 numbers-fit-requires : tie.Need-numbers-fit-requires
 numbers-fit-requires c κs = search needs
 
 returns-2 : tie.Need-returns-2
-returns-2 c = count-holds _ _ _ _ (le-leb _ _ (c .before .before .before .before .if1 .left)) (c .before .before .before .unit-of-bump .ensures) (c .before .before .unit-of-shadow .ensures) (c .numbers-fit .ensures)
+returns-2 c = count-holds _ _ _ _ (le-leb _ _ (c .before .before .before .before .if1 .left)) (c .before .before .before .bump-unit .ensures) (c .before .before .shadow-unit .ensures) (c .numbers-fit .ensures)
 
 pub in-range-spec : {M : Type 1} → statement M
 in-range-spec =
     tie.close
-    (tie.spec returns unit-of-bump-requires unit-of-shadow-requires numbers-fit-requires returns-2)
+    (tie.spec returns bump-unit-requires shadow-unit-requires numbers-fit-requires returns-2)

@@ -1,5 +1,5 @@
 -- `block_reading::lighting_of` meets its contract: the lighting with the lights that the slots have. Assumes nothing.
-use mathlib.Core.Path.{_≡_, ap, _∙_}
+use mathlib.Core.Path.{ap, _∙_}
 use mathlib.Core.List.{List}
 use Rattle.lighting.specs.declared.Light.{Light}
 use Rattle.sources.specs.Sources.{given}

@@ -1,6 +1,5 @@
 -- `cached_read::cached_read` meets its contract: each return is the definition's case for the tests that led there. Assumes nothing.
-use mathlib.Core.Path.{_≡_, sym, _∙_}
-use mathlib.Core.Bool.{true, false}
+use mathlib.Core.Path.{sym, _∙_}
 use borrow.Author.Needs.{needs}
 use borrow.Author.Tests.{lt-leb, le-leb}
 use Rattle.refusals.specs.Lengths.{fileRefusal}

@@ -1,5 +1,4 @@
 -- `decoding::off` meets its contract. The lighting is what `blank_lighting` ensures. Assumes nothing.
-use Rattle.lighting.specs.Blank.{off}
 use borrow.Author.Needs.{needs}
 use Rattle.decoding.proofs.off.Statement.{statement}
 use Rattle.decoding.proofs.off.Tie as tie

@@ -1,7 +1,6 @@
 -- `head_check::lookup_formed` meets its contract: four words of zero are a missing lookup's, and any others are tested one by one. Assumes nothing.
-use Prim.Native.Nat.{ℕ, _+_}
-use native.Mathlib.Nat.{add-zero}
-use mathlib.Core.Path.{_≡_, refl, sym, ap, _∙_}
+use Prim.Native.Nat.{ℕ}
+use mathlib.Core.Path.{_≡_, refl, sym, _∙_}
 use mathlib.Core.Bool.{true}
 use lib.Dec.{lit<}
 use Rattle.sources.specs.Sources.{given}

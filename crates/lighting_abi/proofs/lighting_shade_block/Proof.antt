@@ -1,9 +1,9 @@
 -- `lighting_abi::lighting_shade_block` meets its contract: each wrong length is refused as block shading of the words refuses it, and past the lengths the form of
 -- the block's words leads to its answer. Assumes nothing.
+use mathlib.Core.List.{[]}
 use native.Mathlib.Omega.{arith}
 use mathlib.Core.Path.{_≡_, sym, ap, _∙_}
 use mathlib.Core.Bool.{true, false}
-use mathlib.Core.List.{[]}
 use Rattle.sources.specs.Sources.{given}
 use Rattle.answer_bytes.specs.Bytes.{bytesOf}
 use Rattle.block.specs.Answers.{blockForm}

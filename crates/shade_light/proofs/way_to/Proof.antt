@@ -8,8 +8,8 @@ use borrow.Author.Needs.{needs}
 use Rattle.shade_light.proofs.way_to.Statement.{statement}
 use Rattle.shade_light.proofs.way_to.Tie as tie
 
-scaled-requires : tie.Need-scaled-requires
-scaled-requires c κs = search needs
+is-scaled-requires : tie.Need-is-scaled-requires
+is-scaled-requires c κs = search needs
 
 plus-requires : tie.Need-plus-requires
 plus-requires c κs = search needs
@@ -19,11 +19,11 @@ length-of-requires c κs = search needs
 
 returns : tie.Need-returns
 unfolding wayTo lengthIf lightVector
-returns c = simp (c .length-of .ensures, c .before .plus .ensures, c .before .before .before .before .if1 .taken, sym (c .before .before .before .scaled .ensures) ∙ c .before .before .if2 .taken)
+returns c = simp (c .length-of .ensures, c .before .plus .ensures, c .before .before .before .before .if1 .taken, sym (c .before .before .before .is-scaled .ensures) ∙ c .before .before .if2 .taken)
 
 returns-2 : tie.Need-returns-2
 unfolding wayTo lengthIf lightVector
-returns-2 c = simp (c .before .before .if1 .taken, sym (c .before .scaled .ensures) ∙ c .if2 .left)
+returns-2 c = simp (c .before .before .if1 .taken, sym (c .before .is-scaled .ensures) ∙ c .if2 .left)
 
 plus-requires-2 : tie.Need-plus-requires-2
 plus-requires-2 c κs = search needs
@@ -42,7 +42,7 @@ pub way-to-spec : {M : Type 1} → statement M
 way-to-spec =
     tie.close
     (tie.spec
-    scaled-requires
+    is-scaled-requires
     plus-requires
     length-of-requires
     returns

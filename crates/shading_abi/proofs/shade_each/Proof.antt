@@ -1,10 +1,10 @@
 -- `shading_abi::shade_each` meets its contract. The loop's invariant: the answer is that of the fragment before, or is as it was before the first; when all
 -- are shaded, the fragment before is the last. Assumes nothing.
-use Prim.Native.Nat.{ℕ, zero, suc, _+_, _-_, _*_, _/_, _≤_, _<_}
+use Prim.Native.Nat.{ℕ, zero, suc, _+_, _-_, _*_, _/_, _≤_}
 use native.Mathlib.Omega.{arith}
-use mathlib.Core.Path.{_≡_, refl, sym, ap, _∙_}
+use mathlib.Core.Path.{_≡_, refl, ap, _∙_}
 use mathlib.Core.List.{List}
-use lib.ListN.{length, take, drop}
+use lib.ListN.{length}
 use Rattle.lighting.specs.declared.Lighting.{Lighting}
 use Rattle.block_shading.specs.BlockShading.{eightOf}
 use Rattle.shading_abi.specs.Last.{fragmentAt, lastFragment}

@@ -1,6 +1,6 @@
 -- `slot_shading::shade_lit` meets its contract: each call is the definition's, in its order, and shading asks the head for nothing that the whole lighting
 -- has otherwise. Assumes nothing.
-use mathlib.Core.Path.{_≡_, ap, _∙_}
+use mathlib.Core.Path.{ap, _∙_}
 use Rattle.lighting.specs.declared.Lighting.{Lighting}
 use Rattle.sources.specs.Sources.{given}
 use Rattle.block.specs.Formed.{words}

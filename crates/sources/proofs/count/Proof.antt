@@ -1,7 +1,6 @@
 -- There are as many words as the slice of words has, if there are no bytes, and else a quarter as many as the slice of bytes has. Each of the two
 -- is the law of its case.
-use borrow.Author.Needs.{needs}
-use mathlib.Core.Path.{_≡_, sym, ap, _∙_}
+use mathlib.Core.Path.{sym, ap, _∙_}
 use lib.ListN.{length}
 use Rattle.sources.specs.SourcesLaws.{given-words, given-bytes, length-words}
 use Rattle.sources.proofs.count.Statement.{statement}

@@ -1,8 +1,8 @@
 -- Without bytes the word is read from the slice of words, and it lies in it. With bytes it is made of four of them, and they lie in theirs.
 use borrow.Author.Needs.{needs}
 use native.Mathlib.Omega.{arith}
-use mathlib.Core.Path.{_≡_, sym, ap, _∙_}
-use lib.ListN.{length, getD}
+use mathlib.Core.Path.{sym, ap, _∙_}
+use lib.ListN.{getD}
 use Rattle.sources.specs.SourcesLaws.{given-words, given-bytes, in-words, in-bytes, word-at}
 use Rattle.sources.proofs.word.Statement.{statement}
 use Rattle.sources.proofs.word.Tie as tie

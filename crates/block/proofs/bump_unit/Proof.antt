@@ -1,8 +1,8 @@
--- `shade_bump::bump_unit` meets its contract: each operation and call is the definition's, in its order. Assumes nothing.
+-- `block::bump_unit` meets its contract: each operation and call is the definition's, in its order. Assumes nothing.
 use Rattle.block.specs.Answers.{bumpUnit}
 use borrow.Author.Needs.{needs}
-use Rattle.shade_bump.proofs.bump_unit.Statement.{statement}
-use Rattle.shade_bump.proofs.bump_unit.Tie as tie
+use Rattle.block.proofs.bump_unit.Statement.{statement}
+use Rattle.block.proofs.bump_unit.Tie as tie
 
 enum-told : tie.Need-enum-told
 enum-told c = search needs

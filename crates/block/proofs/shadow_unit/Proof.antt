@@ -1,8 +1,8 @@
--- `shade_shadow::shadow_unit` meets its contract: each operation and call is the definition's, in its order. Assumes nothing.
+-- `block::shadow_unit` meets its contract: each operation and call is the definition's, in its order. Assumes nothing.
 use Rattle.block.specs.Answers.{shadowUnit}
 use borrow.Author.Needs.{needs}
-use Rattle.shade_shadow.proofs.shadow_unit.Statement.{statement}
-use Rattle.shade_shadow.proofs.shadow_unit.Tie as tie
+use Rattle.block.proofs.shadow_unit.Statement.{statement}
+use Rattle.block.proofs.shadow_unit.Tie as tie
 
 enum-told : tie.Need-enum-told
 enum-told c = search needs

@@ -1,9 +1,9 @@
--- `flag_words::is_scaled` meets its contract: it is the definition, by its two cases. Assumes nothing.
+-- `block::is_scaled` meets its contract: it is the definition, by its two cases. Assumes nothing.
 use borrow.Author.Needs.{needs}
 use Rattle.block.specs.Words.{isScaled}
 use mathlib.Core.Path.{refl}
-use Rattle.flag_words.proofs.is_scaled.Statement.{statement}
-use Rattle.flag_words.proofs.is_scaled.Tie as tie
+use Rattle.block.proofs.is_scaled.Statement.{statement}
+use Rattle.block.proofs.is_scaled.Tie as tie
 
 enum-told : tie.Need-enum-told
 enum-told c = search needs
