@@ -223,7 +223,7 @@ numbers-of w f = every-of (w 1) (λ s. leb (lightAt (blockLighting w) s .number 
         let c : w 1 ≤ 8 = leb-true (w 1) 8 (f .shape .few) in
         ap (λ (l : Light). leb (l .number .0) 7) (lit-light w s (omega arith) (lt-ltb s (w 1) h)) ∙ light-number (from w (slotAt s)) (f .shape .number s h)
 
-range-back : (w : ℕ → ℕ) → Formed w → inRange (blockLighting w) ≡ true
+pub range-back : (w : ℕ → ℕ) → Formed w → inRange (blockLighting w) ≡ true
 unfolding inRange numbersFit
 range-back w f =
     bump-of w f

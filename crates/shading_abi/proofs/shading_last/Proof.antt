@@ -12,7 +12,9 @@ use Rattle.block_shading.specs.BlockShading.{shaded, eightOf}
 use Rattle.block_shading.specs.Answers.{isOff}
 use Rattle.block_shading.specs.AnswersLaws.{wrong-block, wrong-tables, wrong-fragment, wrong-answer, lit-answer, off-answer, bad-answer}
 use Rattle.shading_abi.specs.Last.{lastFragment, shadingLast}
-use Rattle.shading_abi.specs.LastLaws.{last-whole, last-short, formed-range}
+use Rattle.block.specs.FormedLaws.{formed-parts}
+use Rattle.block.specs.ReadLaws.{range-back}
+use Rattle.shading_abi.specs.LastLaws.{last-whole, last-short}
 use borrow.Author.Needs.{needs}
 use Rattle.shading_abi.proofs.shading_last.Statement.{statement}
 use Rattle.shading_abi.proofs.shading_last.Tie as tie
@@ -65,7 +67,7 @@ shade-each-requires c κs =
     let s = c .before .before .before .before .before .before .before .before .before .before .before .before .before .before .before .before in
     let b = s .args .block .now in
     let l : isLit (blockForm b) ≡ true = sym (ap isLit (c .before .before .before .before .before .before .form .ensures)) ∙ sym (c .before .before .before .before .before .is-lit .ensures) ∙ c .before .before .before .before .if5 .taken in
-    (ap inRange (c .before .lighting-of .ensures) ∙ formed-range (words b) (is-lit b l .formed), (c .before .before .before .before .before .before .before .before .before .before .if2 .left, c .before .before .before .before .before .before .before .before .before .if3 .left, c .before .before .before .before .before .before .before .before .if4 .left))
+    (ap inRange (c .before .lighting-of .ensures) ∙ range-back (words b) (formed-parts (words b) (is-lit b l .formed)), (c .before .before .before .before .before .before .before .before .before .before .if2 .left, c .before .before .before .before .before .before .before .before .before .if3 .left, c .before .before .before .before .before .before .before .before .if4 .left))
 
 same-length : tie.Need-same-length
 same-length c = search needs
