@@ -42,9 +42,9 @@ eachLookup w p = every 7 (λ k. p (from w (lookupAt k)))
 unfoldable pub eachLit : (ℕ → ℕ) → ((ℕ → ℕ) → Bool) → Bool
 eachLit w p = every (w 1) (λ s. p (from w (slotAt s)))
 
--- bit k of a word, given 2 ^ k
+-- the bit of a word that has this weight, a power of 2
 abbrev pub bitAt : ℕ → ℕ → Bool
-bitAt n k = eqb (n / k % 2) 1
+bitAt n weight = eqb (n / weight % 2) 1
 
 -- none; normals in unit 0 to 3, with z rebuilt or not; tangents in unit 0 to 3
 unfoldable pub bumpFormed : ℕ → Bool

@@ -54,7 +54,7 @@ fn optional_lookup_acceptable(lookup: OptionalLookup) -> bool
     }
 }
 
-// Nothing is done by the next six: they say what the types hold.
+// Nothing is done by the next seven: they say what the types hold.
 
 fn single(_x: f32)
     ensures { λ _. ⌜ Single «_x» ⌝ }

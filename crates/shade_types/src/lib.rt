@@ -53,7 +53,7 @@ pub struct Readings {
     pub fresnel: Reading,
 }
 
-// What a light reads from the tables, 1 where it reads none.
+// What the tables give a light, or what its lookups make of that: 1 where it reads none, but green and blue fall back to red.
 pub struct Values {
     pub distance: f32,
     pub spot: f32,

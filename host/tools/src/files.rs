@@ -13,15 +13,31 @@ pub struct Input {
     pub bytes: Vec<u8>,
 }
 
+/// No text or capture has more bytes: what does is not read to its end, since it may have none.
+const MOST_BYTES: u64 = 1 << 26;
+
+/// At most so many bytes of a file, and one more where it has more.
+pub fn bounded(path: &Path, most: u64) -> io::Result<Vec<u8>> {
+    let mut bytes = vec![];
+    fs::File::open(path)?.take(most + 1).read_to_end(&mut bytes)?;
+    Ok(bytes)
+}
+
 /// Reads a file, or the standard input for `-`.
 pub fn read(path: &OsStr) -> Result<Input, String> {
-    let mut bytes = vec![];
     let (read, name) = match path.as_encoded_bytes() {
-        b"-" => (io::stdin().read_to_end(&mut bytes).map(|_| bytes), "standard input".into()),
-        _ => (fs::read(path), path.display().to_string()),
+        b"-" => {
+            let mut bytes = vec![];
+            (io::stdin().take(MOST_BYTES + 1).read_to_end(&mut bytes).map(|_| bytes), "standard input".into())
+        }
+        _ => (bounded(Path::new(path), MOST_BYTES), path.display().to_string()),
     };
+    let bytes = read.map_err(|e| format!("{name}: {e}"))?;
+    if bytes.len() as u64 > MOST_BYTES {
+        return Err(format!("{name}: more than 64 MiB, which no text and no capture has"));
+    }
     let folder = Path::new(path).parent().unwrap_or(Path::new("")).to_path_buf();
-    read.map_err(|e| format!("{name}: {e}")).map(|bytes| Input { name, folder, bytes })
+    Ok(Input { name, folder, bytes })
 }
 
 /// Prints bytes; that nobody reads on is no failure.

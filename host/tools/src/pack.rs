@@ -2,11 +2,10 @@
 
 use crate::bodies::{total_words, words, Body, Kind, FRAGMENT_WORDS, MOST_BODIES, MOST_WORDS, PARTS, RESTORE_WORDS};
 use crate::curves::Curve;
-use crate::files::Input;
+use crate::files::{bounded, Input};
 use crate::names::{self, hint, REGISTERS, TABLE_DATA, TABLE_INDEX, TABLE_NAMES};
 use crate::values::{float, pair_writes, value, whole, word};
 use std::fmt;
-use std::fs;
 use std::path::Path;
 
 /// What is wrong with a text, and in which line, counted from 1.
@@ -136,11 +135,13 @@ impl Packer<'_> {
         let saved = match rest.split_once(char::is_whitespace).map_or((rest, ""), |(how, path)| (how, path.trim())) {
             ("" | "zero", "") => vec![0; RESTORE_WORDS],
             ("file", path) if !path.is_empty() => {
-                let bytes = fs::read(self.folder.join(path)).map_err(|e| format!("{path} cannot be read: {e}"))?;
-                if bytes.len() != 4 * RESTORE_WORDS {
-                    return Err(format!("{path} has {} bytes, and a restore has {}", bytes.len(), 4 * RESTORE_WORDS));
+                let due = 4 * RESTORE_WORDS;
+                let bytes = bounded(&self.folder.join(path), due as u64).map_err(|e| format!("{path} cannot be read: {e}"))?;
+                match bytes.len() {
+                    size if size > due => return Err(format!("{path} has more than the {due} bytes of a restore")),
+                    size if size < due => return Err(format!("{path} has {size} bytes, and a restore has {due}")),
+                    _ => words(&bytes),
                 }
-                words(&bytes)
             }
             _ => return Err("a restore is 'restore', 'restore zero' or 'restore file NAME'".into()),
         };

@@ -85,3 +85,18 @@ fn full_and_closed_outputs_are_no_panic() {
         assert_eq!(status(line), Some(0), "{line}");
     }
 }
+
+/// What has no end is not read to it.
+#[cfg(target_os = "linux")]
+#[test]
+fn endless_files_are_refused() {
+    let (folder, _) = scene();
+    folder.file("restore.txt", "restore file /dev/zero\n");
+    let restore = run(CAPTURE, &folder, &[OsStr::new("pack"), OsStr::new("restore.txt")], "lamp.txt");
+    assert_eq!(errors(&restore), "restore.txt:1: /dev/zero has more than the 49152 bytes of a restore\n");
+    for how in ["pack", "unpack"] {
+        let endless = run(CAPTURE, &folder, &[OsStr::new(how), OsStr::new("/dev/zero")], "lamp.txt");
+        assert_eq!(errors(&endless), "/dev/zero: more than 64 MiB, which no text and no capture has\n");
+        assert!(endless.status.code() == Some(1) && endless.stdout.is_empty());
+    }
+}
