@@ -13,3 +13,10 @@ pub mod Places
 pub mod PlacesLaws
 pub mod Quantize
 pub mod QuantizeLaws
+pub mod Held
+pub mod HeldLaws
+pub mod DigitLaws
+pub mod ByteLaws
+pub mod FloorDigitLaws
+pub mod Raised
+pub mod RaisedLaws

@@ -1,4 +1,8 @@
 // Words and 32-bit floats, each as the other, and what a place in a table is. Order, whole parts and the places themselves are crates of their own.
+pub mod order;
+pub mod places;
+pub mod whole_parts;
+
 ghost use mathlib.Core.Path.{_≡_};
 ghost use Rattle.binary32.specs.Words.{floatOf, wordOf};
 

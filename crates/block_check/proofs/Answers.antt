@@ -8,9 +8,9 @@ use borrow.Author.Tests.{eq-eqb, ne-eqb, not-true, not-false}
 use Rattle.block.specs.declared.BlockForm.the-variants.{NotWellFormed}
 use Rattle.block.specs.Formed.{words, slotAt, zeros}
 use Rattle.block.specs.Answers.{formOf, blockForm}
-use Rattle.head_check.specs.Head.{headFormed}
-use Rattle.lights_check.specs.Lit.{lightsFormed}
-use Rattle.floats_check.specs.Floats.{floatsForm}
+use Rattle.block_check.specs.Head.{headFormed}
+use Rattle.block_check.specs.Lit.{lightsFormed}
+use Rattle.block_check.specs.Floats.{floatsForm}
 use Rattle.block_check.proofs.Forms.{unused-words, bad-head, bad-lights, by-floats}
 
 pub sized : (b : List ℕ) (n : ℕ) → n ≡ length b → n ≡ 328 → formOf (words b) ≡ blockForm b

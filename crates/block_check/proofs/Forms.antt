@@ -13,9 +13,9 @@ use Rattle.block.specs.TestLaws.{or-first, every-one, every-of}
 use Rattle.block.specs.FormedLaws.{Shaped, formed-parts, formed-made}
 use Rattle.block.specs.SmallLaws.{passes}
 use Rattle.block.specs.PackedLaws.{not-all-zero}
-use Rattle.head_check.specs.Head.{headFormed}
-use Rattle.lights_check.specs.Lit.{lightsFormed}
-use Rattle.floats_check.specs.Floats.{floatsForm}
+use Rattle.block_check.specs.Head.{headFormed}
+use Rattle.block_check.specs.Lit.{lightsFormed}
+use Rattle.block_check.specs.Floats.{floatsForm}
 use Rattle.block_check.proofs.Shape.{lights-of-shape, head-of-shape, unused-of-shape, shape-made}
 
 -- what must hold and doesn't

@@ -11,9 +11,9 @@ use borrow.Author.Tests.{ltb-true}
 use Rattle.block.specs.Formed.{from, lookupAt, slotAt, every, zeros, bitAt, bumpFormed, shadowFormed, scaleFormed, paddingZero}
 use Rattle.block.specs.TestLaws.{both-first, both-second, _also_, chain-first, chain-part, every-one, every-of}
 use Rattle.block.specs.FormedLaws.{Shaped}
-use Rattle.settings_check.specs.Settings.{settingsFormed}
-use Rattle.head_check.specs.Head.{lookupFormed, lookupsFormed, headFormed}
-use Rattle.lights_check.specs.Lit.{vectorsPadded, lightPadded, lightFormed, lightsFormed}
+use Rattle.block_check.specs.Settings.{settingsFormed}
+use Rattle.block_check.specs.Head.{lookupFormed, lookupsFormed, headFormed}
+use Rattle.block_check.specs.Lit.{vectorsPadded, lightPadded, lightFormed, lightsFormed}
 
 -- a lookup
 

@@ -1,12 +1,18 @@
 // What a block's words are: the check that runs at each call of the block shader. It goes over the words once, part by part, with no branch
 // for a word. The words come as words or as bytes.
+mod floats;
+mod head;
+mod lights;
+mod options;
+mod zeros;
+
+use crate::floats::floats_form;
+use crate::head::head_formed;
+use crate::lights::lights_formed;
+use crate::zeros::are_zero;
+use crate::zeros::unused_are_zero;
 use block::BlockForm;
-use floats_check::floats_form;
-use head_check::head_formed;
-use lights_check::lights_formed;
 use sources::word;
-use zeros_check::are_zero;
-use zeros_check::unused_are_zero;
 ghost use mathlib.Core.Path.{_≡_};
 ghost use Prim.Native.Nat.{_≤_};
 ghost use lib.ListN.{length};

@@ -1,11 +1,14 @@
 // The block reader: the lighting of a block, or off, or a refusal. The block is never copied: each part is read where it stands. The words
 // come as words or as bytes.
+pub mod head;
+pub mod light;
+
+use crate::head::light_count;
+use crate::head::lighting_with;
+use crate::light::light_of;
 use block::BlockForm;
 use block::BlockRead;
 use block_check::form;
-use block_head::light_count;
-use block_head::lighting_with;
-use block_light::light_of;
 use lighting::Light;
 use lighting::Lighting;
 use lighting::OptionalLighting;

@@ -9,8 +9,8 @@ use Rattle.lighting.specs.declared.OptionalLighting.{OptionalLighting}
 use Rattle.block.specs.Formed.{words}
 use Rattle.block.specs.Reading.{blockReading}
 use Rattle.block.specs.Answers.{wordsRefusal}
-use Rattle.shading.specs.Shade.{shadeOf}
-use Rattle.fragments.specs.Fragment.{quaternionOf, viewOf, texelsOf}
+use Rattle.shading.specs.LawShade.{shade}
+use Rattle.block_shading.specs.Fragment.{quaternionOf, viewOf, texelsOf}
 
 -- what block shading gives: its number, and the answer slice afterwards
 pub record Shaded : Type 0 where
@@ -22,7 +22,7 @@ shaded k a = record { number = k; answer = a }
 
 -- the eight k, in the printed order, of a lighting, the tables and a fragment's words
 unfoldable pub eightOf : Lighting → List ℕ → List ℕ → List ℕ
-eightOf l tables fragment = shadeOf l tables (quaternionOf fragment) (viewOf fragment) (texelsOf fragment)
+eightOf l tables fragment = shade l tables (quaternionOf fragment) (viewOf fragment) (texelsOf fragment)
 
 -- "6; 2; 9 fragment not 23 words or answer not 8; 7"
 unfoldable pub blockShadingRefusal : List ℕ → List ℕ → List ℕ → List ℕ → ℕ

@@ -1,4 +1,7 @@
 // Block shading: a fragment shaded from a block and the tables alone, as a renderer that has only the copy does it.
+mod fragments;
+pub mod slots;
+
 use block::BlockForm;
 use block_reading::is_lit;
 use block_reading::is_plain;
@@ -31,12 +34,7 @@ pub fn is_off(form: BlockForm) -> bool
 }
 
 // The eight channels of a fragment, 0 to 255, in the printed order.
-pub fn shade_block(
-    block: &[u32],
-    tables: &[u32],
-    fragment: &[u32],
-    answer: &mut [u32],
-) -> BlockShading
+fn shade_block(block: &[u32], tables: &[u32], fragment: &[u32], answer: &mut [u32]) -> BlockShading
     ensures { λ r. ⌜ shaded (shadedNumber r) (now (answer .exit)) ≡ blockShading (now (block .entry)) (now (tables .entry)) (now (fragment .entry)) (now (answer .entry)) ⌝ }
 {
     if block.len() != 328 {
@@ -54,7 +52,7 @@ pub fn shade_block(
     let none = [0u8; 0];
     let form = block_check::form(block, &none);
     if is_lit(form) {
-        let channels = slot_shading::shade_lit(
+        let channels = slots::shade_lit(
             block,
             &none,
             tables,
@@ -63,7 +61,7 @@ pub fn shade_block(
             &none,
             is_plain(form),
         );
-        answer_words::put(answer, channels);
+        shading::answer_words::put(answer, channels);
         return BlockShading::Done;
     }
     if is_off(form) {
@@ -79,8 +77,8 @@ pub fn shade_fragment(lighting: Lighting, tables: &[u32], fragment: &[u32], answ
     ensures { λ _. ⌜ now (answer .exit) ≡ eightOf lighting (now (tables .entry)) (now (fragment .entry)) ⌝ }
 {
     let none = [0u8; 0];
-    answer_words::put(
+    shading::answer_words::put(
         answer,
-        slot_shading::shade_read(lighting, tables, &none, fragment, &none),
+        slots::shade_read(lighting, tables, &none, fragment, &none),
     );
 }

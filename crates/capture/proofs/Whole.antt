@@ -13,16 +13,16 @@ use Rattle.refusals.specs.declared.Refusal.the-variants.{ShortFile, WrongTables
 use Rattle.refusals.specs.declared.Outcome.{Outcome}
 use Rattle.refusals.specs.declared.Outcome.the-variants.{Refused}
 use Rattle.sources.specs.Sources.{wordsOf}
-use Rattle.writing.specs.Writing.{out, puts}
-use Rattle.writing.specs.WritingLaws.{put-size, put-list, put-front}
+use Rattle.printing.specs.Writing.{out, puts}
+use Rattle.printing.specs.WritingLaws.{put-size, put-list, put-front}
 use Rattle.printing.specs.Text.{refusedLine}
-use Rattle.capture_contents.specs.Contents.{contents, sized, registersRight, shaped}
+use Rattle.capture_check.specs.Contents.{contents, sized, registersRight, shaped}
 use Rattle.capture_check.specs.Refusal.{captureWordsRefusal, captureRefusal}
 use Rattle.capture_calls.specs.Machine.{largestOutput}
-use Rattle.capture_answers.specs.declared.Answer.{Answer}
-use Rattle.capture_answers.specs.Answers.{numberBy, sizeOf, capturedBy}
-use Rattle.capture_printed.specs.Printed.{printedIf, printed, captures}
-use Rattle.capture_printed.specs.PrintedLaws.{printed-refused, printed-fits}
+use Rattle.capture_calls.specs.declared.answers.Answer.{Answer}
+use Rattle.capture_calls.specs.Answers.{numberBy, sizeOf, capturedBy}
+use Rattle.capture_calls.specs.Printed.{printedIf, printed, captures}
+use Rattle.capture_calls.specs.PrintedLaws.{printed-refused, printed-fits}
 
 -- 0, 3 or 8
 refusal-small : (w : List ℕ) → captureWordsRefusal w < 1000

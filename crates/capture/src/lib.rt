@@ -1,20 +1,25 @@
 // The capture program's library call: the bytes that a capture prints, worked out from the bytes of the input.
-use capture_answers::Answer;
+mod body;
+mod fresh;
+mod run;
+mod writes;
+
+use crate::fresh::run_fresh;
+use capture_calls::answers::Answer;
 use capture_check::check_words;
-use capture_contents::sized;
-use capture_fresh::run_fresh;
-use capture_words::to_words;
+use capture_check::contents::sized;
+use capture_check::words::to_words;
 use printing::put_refused;
 use refusals::Outcome;
 use refusals::Refusal;
 ghost use mathlib.Core.Path.{_≡_};
 ghost use Prim.Native.Nat.{_≤_};
 ghost use lib.ListN.{length};
-ghost use Rattle.writing.specs.Writing.{out as outAt, puts};
+ghost use Rattle.printing.specs.Writing.{out as outAt, puts};
 ghost use Rattle.capture_check.specs.Refusal.{captureWordsRefusal};
 ghost use Rattle.capture_calls.specs.Machine.{largestOutput};
-ghost use Rattle.capture_answers.specs.Answers.{sizeOf, numberBy, capturedBy};
-ghost use Rattle.capture_printed.specs.Printed.{printedIf, captures};
+ghost use Rattle.capture_calls.specs.Answers.{sizeOf, numberBy, capturedBy};
+ghost use Rattle.capture_calls.specs.Printed.{printedIf, captures};
 
 // The words of an input whose size is right: both refusals come before any body runs.
 fn run_words(words: &[u32], out: &mut [u8]) -> Answer

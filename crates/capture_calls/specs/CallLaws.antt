@@ -7,7 +7,7 @@ use mathlib.Core.List.{List, [], _∷_}
 use mathlib.Core.Bool.{Bool, true, false, cond}
 use lib.ListN.{length, length-take}
 use lib.Dec.{eqb}
-use Rattle.capture_contents.specs.Contents.{Body, wordsIn}
+use Rattle.capture_check.specs.Contents.{Body, wordsIn}
 use Rattle.capture_calls.specs.Calls.{pairCalls, handOverCall, restoreCall, bodyCalls}
 
 -- "kind 2 first hands over, even with no fragment": one call, whatever its words are

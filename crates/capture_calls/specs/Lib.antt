@@ -4,3 +4,8 @@ pub mod Machine
 pub mod CallLaws
 pub mod RunLaws
 pub mod MachineLaws
+pub mod Answers
+pub mod Printed
+pub mod RefusalLaws
+pub mod PrintedLaws
+pub mod AnswerLaws

@@ -4,7 +4,7 @@ use mathlib.Core.List.{List, [], _∷_, _++_}
 use Rattle.lists.specs.Plain.{Machine, plainRun}
 use Rattle.lists.specs.Claim.{shadeFrom}
 use Rattle.block_shading.specs.BlockShading.{Shaded}
-use Rattle.capture_contents.specs.Contents.{Body, wordsIn}
+use Rattle.capture_check.specs.Contents.{Body, wordsIn}
 use Rattle.capture_lines.specs.Lines.{noAnswer, bodyLines}
 use Rattle.capture_calls.specs.Calls.{bodyCalls}
 

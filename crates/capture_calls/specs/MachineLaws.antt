@@ -11,14 +11,15 @@ use lib.Dec.{eqb}
 use borrow.Author.Tests.{eqb-true}
 use Rattle.decoding.specs.Decode.{decoded}
 use Rattle.block_shading.specs.BlockShading.{shaded, eightOf}
+use Rattle.unit.specs.Fresh.{freshCache}
 use Rattle.lists.specs.States.{fresh}
 use Rattle.lists.specs.Calls.{Call, run}
 use Rattle.lists.specs.Ours.{ours}
 use Rattle.lists.specs.Plain.{accepts, Machine, zeroMachine, plainStep, plainRun, plain}
 use Rattle.lists.specs.Claim.{HandsOver, EndsHandedOver, shadeFrom, Demand3}
 use Rattle.lists.specs.Demand3Laws.{every-list-shades-alike}
-use Rattle.capture_contents.specs.Contents.{Body, bodyCount, contents, contentsEnd, wordsIn, gapless, shaped}
-use Rattle.capture_contents.specs.ContentsLaws.{lies-end, gapless-head, gapless-rest, shaped-end, shaped-gapless, contents-count}
+use Rattle.capture_check.specs.Contents.{Body, bodyCount, contents, contentsEnd, wordsIn, gapless, shaped}
+use Rattle.capture_check.specs.ContentsLaws.{lies-end, gapless-head, gapless-rest, shaped-end, shaped-gapless, contents-count}
 use Rattle.capture_lines.specs.Lines.{noAnswer, blockShades, fragmentLines, bodyLines}
 use Rattle.capture_lines.specs.LinesLaws.{lines-alike, body-fits}
 use Rattle.capture_lines.specs.ChannelLaws.{eight-long}
@@ -48,9 +49,9 @@ module _ (done : List Call) (kind : ℕ) (ws : List ℕ) (few : length done + le
   calls-few : length (andThen done kind ws) < 0x10000000000000000
   calls-few = rw length-append (omega (arith, body-calls-few kind ws))
 
-  state-after : afterBody (run ours (fresh 474) done) kind ws ≡ run ours (fresh 474) (andThen done kind ws)
+  state-after : afterBody (run ours (fresh freshCache 474) done) kind ws ≡ run ours (fresh freshCache 474) (andThen done kind ws)
   unfolding afterBody
-  state-after = sym (run-append ours (fresh 474) done (bodyCalls kind ws))
+  state-after = sym (run-append ours (fresh freshCache 474) done (bodyCalls kind ws))
 
   machine-after : machineAfter (plain 474 done) kind ws ≡ plain 474 (andThen done kind ws)
   unfolding machineAfter
@@ -60,11 +61,11 @@ module _ (done : List Call) (kind : ℕ) (ws : List ℕ) (few : length done + le
   calls-end : kind ≡ 2 → EndsHandedOver 474 (andThen done kind ws)
   calls-end k = rw (k, kind-2-hands-over ws) (ends done)
 
-  lines-same : afterLines (run ours (fresh 474) (andThen done kind ws)) kind ws ≡ bodyLines (machineShades (plain 474 (andThen done kind ws))) kind ws
+  lines-same : afterLines (run ours (fresh freshCache 474) (andThen done kind ws)) kind ws ≡ bodyLines (machineShades (plain 474 (andThen done kind ws))) kind ws
   unfolding afterLines bodyLines Demand3
   lines-same = go (eqb kind 2) refl
     where
-      go : (b : Bool) → eqb kind 2 ≡ b → cond b (fragmentLines (blockShades (run ours (fresh 474) (andThen done kind ws) .copy .block) (run ours (fresh 474) (andThen done kind ws) .copy .tables)) (length ws / 23) ws) [] ≡ cond b (fragmentLines (machineShades (plain 474 (andThen done kind ws))) (length ws / 23) ws) []
+      go : (b : Bool) → eqb kind 2 ≡ b → cond b (fragmentLines (blockShades (run ours (fresh freshCache 474) (andThen done kind ws) .copy .block) (run ours (fresh freshCache 474) (andThen done kind ws) .copy .tables)) (length ws / 23) ws) [] ≡ cond b (fragmentLines (machineShades (plain 474 (andThen done kind ws))) (length ws / 23) ws) []
       go false e = refl
       go true e =
           lines-alike _ _
@@ -72,7 +73,7 @@ module _ (done : List Call) (kind : ℕ) (ws : List ℕ) (few : length done + le
           (length ws / 23) ws (omega arith)
 
 -- the bodies bs of the words w, which stand from `at` to the end
-copy-prints : (w : List ℕ) (bs : List Body) (done : List Call) (at end : ℕ) → gapless bs at end ≡ true → length done + (end - at) + length bs < 0x10000000000000000 → copyPrints w bs (run ours (fresh 474) done) ≡ machinePrints w bs (plain 474 done)
+copy-prints : (w : List ℕ) (bs : List Body) (done : List Call) (at end : ℕ) → gapless bs at end ≡ true → length done + (end - at) + length bs < 0x10000000000000000 → copyPrints w bs (run ours (fresh freshCache 474) done) ≡ machinePrints w bs (plain 474 done)
 unfolding copyPrints machinePrints
 copy-prints w [] done at end g few = refl
 copy-prints w (b ∷ bs) done at end g few =
@@ -85,7 +86,7 @@ copy-prints w (b ∷ bs) done at end g few =
     (copy-prints w bs (andThen done (b .kind) (wordsIn w b)) (at + b .size) end (gapless-rest b bs at end g) (omega arith)))
 
 -- of a capture's words whose form is right, on a fresh unit and a fresh copy
-pub copy-prints-as-machine : (w : List ℕ) → length w ≤ 16384 → shaped w ≡ true → copyPrints w (contents w) (fresh 474) ≡ machinePrints w (contents w) zeroMachine
+pub copy-prints-as-machine : (w : List ℕ) → length w ≤ 16384 → shaped w ≡ true → copyPrints w (contents w) (fresh freshCache 474) ≡ machinePrints w (contents w) zeroMachine
 unfolding run plainRun
 copy-prints-as-machine w n s =
     copy-prints w (contents w) [] (contentsEnd (bodyCount w)) (length w) (shaped-gapless w s) (omega (arith, contents-count w, shaped-end w s))

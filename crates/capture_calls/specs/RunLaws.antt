@@ -4,7 +4,7 @@ use mathlib.Core.List.{List, [], _∷_, _++_}
 use Rattle.lists.specs.States.{State, Implementation}
 use Rattle.lists.specs.Calls.{Call, step, run}
 
-pub run-append : (I : Implementation) (s : State) (cs ds : List Call) → run I s (cs ++ ds) ≡ run I (run I s cs) ds
+pub run-append : {C : Type 0} (I : Implementation C) (s : State C) (cs ds : List Call) → run I s (cs ++ ds) ≡ run I (run I s cs) ds
 unfolding run
 run-append I s [] ds = refl
 run-append I s (c ∷ cs) ds = run-append I (step I s c) cs ds

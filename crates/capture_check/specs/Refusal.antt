@@ -4,7 +4,7 @@ use mathlib.Core.List.{List}
 use mathlib.Core.Bool.{cond}
 use lib.ListN.{length}
 use Rattle.sources.specs.Sources.{wordsOf}
-use Rattle.capture_contents.specs.Contents.{contents, sized, shaped, registersRight}
+use Rattle.capture_check.specs.Contents.{contents, sized, shaped, registersRight}
 
 -- of the words of an input whose size is right
 unfoldable pub captureWordsRefusal : List ℕ → ℕ

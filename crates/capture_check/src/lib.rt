@@ -1,7 +1,12 @@
 // The check of a capture's words, before anything of it is run.
-use capture_contents::wide;
-use capture_form::shaped;
-use capture_registers::registers_right;
+pub mod contents;
+mod form;
+mod registers;
+pub mod words;
+
+use crate::contents::wide;
+use crate::form::shaped;
+use crate::registers::registers_right;
 use refusals::Outcome;
 use refusals::Refusal;
 ghost use mathlib.Core.Path.{_≡_};

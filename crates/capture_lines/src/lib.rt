@@ -1,4 +1,7 @@
 // The lines of fragments that no lighting colours: `off`, or a refusal.
+pub mod fragments;
+mod lit;
+
 use printing::put_off;
 use printing::put_refused;
 use refusals::Outcome;
@@ -9,11 +12,11 @@ ghost use lib.Dec.{eqb};
 ghost use lib.ListN.{length};
 ghost use Rattle.refusals.specs.Numbers.{outcomeNumber};
 ghost use Rattle.block_shading.specs.BlockShading.{shaded};
-ghost use Rattle.writing.specs.Writing.{out as outAt, puts};
+ghost use Rattle.printing.specs.Writing.{out as outAt, puts};
 ghost use Rattle.capture_lines.specs.Lines.{noAnswer, unlitShades, shownLine, fragmentLines};
 
 // What shading answers from a block that isn't lit: 100 where it is off, or the refusal's number.
-pub fn unlit_number(outcome: Outcome) -> u32
+pub(crate) fn unlit_number(outcome: Outcome) -> u32
     ensures { λ r. ⌜ (r ≡ cond (eqb (outcomeNumber outcome) 0) 100 (outcomeNumber outcome)) × (0 < r) × (r < 1000) ⌝ }
 {
     match outcome {
@@ -33,7 +36,7 @@ fn print_unlit(number: u32, out: &mut [u8], at: usize) -> usize
     put_refused(out, at, number)
 }
 
-pub fn print_all_unlit(number: u32, fragments: &[u32], out: &mut [u8], at: usize) -> usize
+pub(crate) fn print_all_unlit(number: u32, fragments: &[u32], out: &mut [u8], at: usize) -> usize
     requires { ⌜ (0 < number) × (number < 1000) × (at + 32 * (length (now fragments) / 23) ≤ length (now out)) ⌝ }
     ensures { λ r. ⌜ (outAt (now (out .exit)) r ≡ puts (outAt (now (out .entry)) at) (fragmentLines (unlitShades number) (length (now (fragments .entry)) / 23) (now (fragments .entry)))) × (r ≤ at + 32 * (length (now (fragments .entry)) / 23)) ⌝ }
 {

@@ -35,42 +35,42 @@ pub extern "C" fn compare_word(n: u32) -> u32
 pub extern "C" fn compare_floor(x: f32) -> f32
     ensures { λ r. ⌜ r ≡ floorOf x ⌝ }
 {
-    whole_parts::floor(x)
+    binary32::whole_parts::floor(x)
 }
 
 #[no_mangle]
 pub extern "C" fn compare_magnitude(x: f32) -> f32
     ensures { λ r. ⌜ r ≡ magnitudeOf x ⌝ }
 {
-    float_order::magnitude(x)
+    binary32::order::magnitude(x)
 }
 
 #[no_mangle]
 pub extern "C" fn compare_max(x: f32, y: f32) -> f32
     ensures { λ r. ⌜ r ≡ maxOf x y ⌝ }
 {
-    float_order::max(x, y)
+    binary32::order::max(x, y)
 }
 
 #[no_mangle]
 pub extern "C" fn compare_min(x: f32, y: f32) -> f32
     ensures { λ r. ⌜ r ≡ minOf x y ⌝ }
 {
-    float_order::min(x, y)
+    binary32::order::min(x, y)
 }
 
 #[no_mangle]
 pub extern "C" fn compare_clamp(x: f32, low: f32, high: f32) -> f32
     ensures { λ r. ⌜ r ≡ clampOf x low high ⌝ }
 {
-    float_order::clamp(x, low, high)
+    binary32::order::clamp(x, low, high)
 }
 
 #[no_mangle]
 pub extern "C" fn compare_unsigned_entry(x: f32) -> u8
     ensures { λ r. ⌜ r ≡ unsignedPlaceOf x .entry ⌝ }
 {
-    let place = table_places::unsigned_place(x);
+    let place = binary32::places::unsigned_place(x);
     place.entry
 }
 
@@ -78,7 +78,7 @@ pub extern "C" fn compare_unsigned_entry(x: f32) -> u8
 pub extern "C" fn compare_unsigned_delta(x: f32) -> f32
     ensures { λ r. ⌜ r ≡ unsignedPlaceOf x .delta ⌝ }
 {
-    let place = table_places::unsigned_place(x);
+    let place = binary32::places::unsigned_place(x);
     place.delta
 }
 
@@ -86,7 +86,7 @@ pub extern "C" fn compare_unsigned_delta(x: f32) -> f32
 pub extern "C" fn compare_signed_entry(x: f32) -> u8
     ensures { λ r. ⌜ r ≡ signedPlaceOf x .entry ⌝ }
 {
-    let place = table_places::signed_place(x);
+    let place = binary32::places::signed_place(x);
     place.entry
 }
 
@@ -94,7 +94,7 @@ pub extern "C" fn compare_signed_entry(x: f32) -> u8
 pub extern "C" fn compare_signed_delta(x: f32) -> f32
     ensures { λ r. ⌜ r ≡ signedPlaceOf x .delta ⌝ }
 {
-    let place = table_places::signed_place(x);
+    let place = binary32::places::signed_place(x);
     place.delta
 }
 
@@ -102,21 +102,21 @@ pub extern "C" fn compare_signed_delta(x: f32) -> f32
 pub extern "C" fn compare_quantized(x: f32) -> u32
     ensures { λ r. ⌜ r ≡ quantizedOf x ⌝ }
 {
-    whole_parts::quantized(x)
+    binary32::whole_parts::quantized(x)
 }
 
 #[no_mangle]
 pub extern "C" fn compare_half(bits: u32) -> f32
     ensures { λ r. ⌜ r ≡ shortFloat 10 5 bits ⌝ }
 {
-    short_floats::half(bits)
+    fields::short_floats::half(bits)
 }
 
 #[no_mangle]
 pub extern "C" fn compare_float20(bits: u32) -> f32
     ensures { λ r. ⌜ r ≡ shortFloat 12 7 bits ⌝ }
 {
-    short_floats::float20(bits)
+    fields::short_floats::float20(bits)
 }
 
 #[no_mangle]
@@ -140,14 +140,14 @@ pub extern "C" fn compare_color(value: u32, at: u32) -> f32
 pub extern "C" fn compare_upload_value(word: u32) -> u32
     ensures { λ r. ⌜ r ≡ uploadValueBits word ⌝ }
 {
-    upload_fields::upload_value_bits(word)
+    fields::upload::upload_value_bits(word)
 }
 
 #[no_mangle]
 pub extern "C" fn compare_upload_step(word: u32) -> u32
     ensures { λ r. ⌜ r ≡ uploadStepBits word ⌝ }
 {
-    upload_fields::upload_step_bits(word)
+    fields::upload::upload_step_bits(word)
 }
 
 #[no_mangle]
@@ -170,7 +170,7 @@ pub extern "C" fn compare_cross(
 ) -> f32
     ensures { λ r. ⌜ r ≡ getD (crossOf (a0 ∷ a1 ∷ a2 ∷ []) (b0 ∷ b1 ∷ b2 ∷ [])) (at % 3) nan ⌝ }
 {
-    let v = rotation::cross([a0, a1, a2], [b0, b1, b2]);
+    let v = vectors::rotation::cross([a0, a1, a2], [b0, b1, b2]);
     let i = (at % 3) as usize;
     v[i]
 }
@@ -197,7 +197,7 @@ pub extern "C" fn compare_rotate(
 ) -> f32
     ensures { λ r. ⌜ r ≡ getD (rotateOf (q0 ∷ q1 ∷ q2 ∷ q3 ∷ []) (v0 ∷ v1 ∷ v2 ∷ [])) (at % 3) nan ⌝ }
 {
-    let v = rotation::rotate([q0, q1, q2, q3], [v0, v1, v2]);
+    let v = vectors::rotation::rotate([q0, q1, q2, q3], [v0, v1, v2]);
     let i = (at % 3) as usize;
     v[i]
 }

@@ -16,15 +16,15 @@ use Rattle.lighting.specs.declared.OptionalLookup.the-variants.{Missing}
 use Rattle.lighting.specs.declared.Distance.the-variants.{Without}
 use Rattle.lighting.specs.declared.Bump.the-variants.{Flat}
 use Rattle.lighting.specs.declared.OptionalShadow.the-variants.{Unshadowed}
-use Rattle.configuration.specs.Supported.{configOf, supportedBy}
-use Rattle.slots.specs.Slots.{countOf, lightNumberOf}
-use Rattle.light_fields.specs.LightFields.{lightRegister, lightColour, positionOf, spotOf}
-use Rattle.lights.specs.Lights.{distanceOf, spotlitOf, lightOf, slotLight, lightsOf}
+use Rattle.decoding.specs.Supported.{configOf, supportedBy}
+use Rattle.decoding.specs.Slots.{countOf, lightNumberOf}
+use Rattle.decoding.specs.LightFields.{lightRegister, lightColour, positionOf, spotOf}
+use Rattle.decoding.specs.Lights.{distanceOf, spotlitOf, lightOf, slotLight, lightsOf}
 use Rattle.refusals.specs.Lengths.{fileRefusal}
-use Rattle.lookups.specs.Tables.{scales, scaleOf, lookupOf, lookupIf, lookupsOf}
-use Rattle.settings.specs.Settings.{bumpOf, shadowOf}
-use Rattle.needs.specs.Needs.{litLights, inputHalf, inputView, lookupHalf, lookupView, halfInput, viewInput, needsHalf, needsView}
-use Rattle.register_lighting.specs.Lighting.{lightingOf}
+use Rattle.decoding.specs.Tables.{scales, scaleOf, lookupOf, lookupIf, lookupsOf}
+use Rattle.decoding.specs.Settings.{bumpOf, shadowOf}
+use Rattle.decoding.specs.Needs.{litLights, inputHalf, inputView, lookupHalf, lookupView, halfInput, viewInput, needsHalf, needsView}
+use Rattle.decoding.specs.Lighting.{lightingOf}
 use Rattle.decoding.specs.Decode.{lightingOn, decoded, readIf, readOf}
 
 abbrev fresh : List ℕ

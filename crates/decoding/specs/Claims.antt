@@ -15,8 +15,8 @@ use Rattle.lighting.specs.declared.Bump.the-variants.{Flat, Normal, Tangent}
 use Rattle.lighting.specs.declared.OptionalShadow.{OptionalShadow}
 use Rattle.lighting.specs.declared.OptionalShadow.the-variants.{Unshadowed, Shadowed}
 use Rattle.lighting.specs.declared.Lighting.{Lighting}
-use Rattle.lights.specs.Claims.{LightFits}
-use Rattle.lookups.specs.Tables.{scaleOf}
+use Rattle.decoding.specs.LightsClaims.{LightFits}
+use Rattle.decoding.specs.Tables.{scaleOf}
 
 -- a scale is that of some code
 pub record IsScale (x : Float) : Type 0 where

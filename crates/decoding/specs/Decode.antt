@@ -7,8 +7,8 @@ use Rattle.refusals.specs.Numbers.{outcomeNumber}
 use Rattle.refusals.specs.Lengths.{fileRefusal}
 use Rattle.lighting.specs.Blank.{off}
 use Rattle.lighting.specs.declared.OptionalLighting.{OptionalLighting}
-use Rattle.registers.specs.Registers.{regEnable, regDisable, registerOf, flagOf}
-use Rattle.register_lighting.specs.Lighting.{lightingOf}
+use Rattle.decoding.specs.Registers.{regEnable, regDisable, registerOf, flagOf}
+use Rattle.decoding.specs.Lighting.{lightingOf}
 use Rattle.decoding.specs.declared.LightingRead.{LightingRead}
 
 -- off when bit 0 of 8F is clear or bit 0 of 1C6 is set

@@ -3,15 +3,15 @@ use Prim.Native.Nat.{ℕ}
 use mathlib.Core.Path.{_≡_}
 use mathlib.Core.List.{List}
 use native.Mathlib.Omega.{arith}
-use Rattle.lights.specs.Claims.{SameLights}
-use Rattle.lights.specs.SameLaws.{count-same, config-same, lights-same}
-use Rattle.lookups.specs.Tables.{lookupOf, lookupIf, lookupsOf}
-use Rattle.needs.specs.Needs.{litLights, needsHalf, needsView}
-use Rattle.register_lighting.specs.Lighting.{lightingOf}
+use Rattle.decoding.specs.LightsClaims.{SameLights}
+use Rattle.decoding.specs.SameLaws.{count-same, config-same, lights-same}
+use Rattle.decoding.specs.Tables.{lookupOf, lookupIf, lookupsOf}
+use Rattle.decoding.specs.Needs.{litLights, needsHalf, needsView}
+use Rattle.decoding.specs.Lighting.{lightingOf}
 use Rattle.decoding.specs.Decode.{lightingOn, decoded}
-use Rattle.registers_read.specs.RegistersRead.{keptWords}
-use Rattle.registers_read.specs.Claims.{SameKept}
-use Rattle.registers_read.specs.KeptLaws.{kept-same}
+use Rattle.decoding.specs.RegistersRead.{keptWords}
+use Rattle.decoding.specs.RegistersReadClaims.{SameKept}
+use Rattle.decoding.specs.KeptLaws.{kept-same}
 
 module _ (f g : List ℕ) (s : SameKept f g) where
   same : SameLights f g

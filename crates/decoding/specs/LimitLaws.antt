@@ -13,14 +13,14 @@ use Rattle.lighting.specs.declared.Bump.the-variants.{Flat, Normal, Tangent}
 use Rattle.lighting.specs.declared.Shadow.{Shadow}
 use Rattle.lighting.specs.declared.OptionalShadow.the-variants.{Unshadowed, Shadowed}
 use Rattle.lighting.specs.declared.Light.{Light}
-use Rattle.registers.specs.Registers.{regConfig1, regTableScale, registerOf, bitsOf, flagOf}
-use Rattle.configuration.specs.Supported.{configOf, supportedBy}
-use Rattle.lights.specs.Lights.{lightsOf, slotLight}
-use Rattle.lights.specs.LightLaws.{count-low, count-high, config-lt, lights-length, light-at, blank-beyond, slot-number-lt, slot-fits, colour-vector}
-use Rattle.lookups.specs.Tables.{scaleOf, lookupOf, lookupIf, lookupsOf}
-use Rattle.settings.specs.Settings.{bumpOf, shadowOf}
-use Rattle.needs.specs.Needs.{needsHalf, needsView}
-use Rattle.register_lighting.specs.Lighting.{lightingOf}
+use Rattle.decoding.specs.Registers.{regConfig1, regTableScale, registerOf, bitsOf, flagOf}
+use Rattle.decoding.specs.Supported.{configOf, supportedBy}
+use Rattle.decoding.specs.Lights.{lightsOf, slotLight}
+use Rattle.decoding.specs.LightLaws.{count-low, count-high, config-lt, lights-length, light-at, blank-beyond, slot-number-lt, slot-fits, colour-vector}
+use Rattle.decoding.specs.Tables.{scaleOf, lookupOf, lookupIf, lookupsOf}
+use Rattle.decoding.specs.Settings.{bumpOf, shadowOf}
+use Rattle.decoding.specs.Needs.{needsHalf, needsView}
+use Rattle.decoding.specs.Lighting.{lightingOf}
 use Rattle.decoding.specs.Claims.{LookupLimits, OptionalLookupLimits, BumpLimits, ShadowLimits, LightLimits, Limits}
 
 -- what holds of 1, 2, 4, 8, 0, 0.25 and 0.5 holds of every code's scale

@@ -1,11 +1,22 @@
 // From a register file to the lighting of a draw, or off.
+mod bump_shadow;
+pub mod configuration;
+mod light_fields;
+mod lights;
+mod needs;
+mod register_lighting;
+mod registers;
+pub mod registers_read;
+mod slots;
+mod table_lookups;
+
+use crate::register_lighting::lighting;
+use crate::registers::flag;
+use crate::registers::register;
 use lighting::OptionalLighting;
 use lighting::blank_lighting;
 use refusals::Outcome;
 use refusals::Refusal;
-use register_lighting::lighting;
-use registers::flag;
-use registers::register;
 ghost use mathlib.Core.Path.{_≡_};
 ghost use Rattle.lighting.specs.Blank.{off as offOf};
 ghost use Rattle.decoding.specs.Decode.{decoded, answerOf, readOf};
@@ -43,7 +54,7 @@ pub struct LightingRead {
     pub decoded: OptionalLighting,
 }
 
-pub fn read(file: &[u32]) -> LightingRead
+fn read(file: &[u32]) -> LightingRead
     ensures { λ r. ⌜ answerOf r ≡ readOf (now (file .entry)) ⌝ }
 {
     if file.len() < 474 {

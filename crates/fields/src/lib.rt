@@ -1,4 +1,7 @@
-// Colours and spot components as the registers encode them. Upload words are `upload_fields`, short floats `short_floats`.
+// Colours and spot components as the registers encode them. Upload words are `upload`, short floats `short_floats`.
+pub mod short_floats;
+pub mod upload;
+
 ghost use mathlib.Core.Path.{_≡_};
 ghost use Prim.Native.Nat.{_<_};
 ghost use lib.Ieee.{binary32, ofInt};

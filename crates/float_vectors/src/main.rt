@@ -16,7 +16,7 @@ fn result_of(operation: Operation, input: u32) -> u32 {
     let x = binary32::float_of(input);
     match operation {
         Operation::Root => binary32::word_of(root::root(x)),
-        Operation::Floor => binary32::word_of(whole_parts::floor(x)),
+        Operation::Floor => binary32::word_of(binary32::whole_parts::floor(x)),
     }
 }
 

@@ -5,7 +5,7 @@ use mathlib.Core.Bool.{cond}
 use lib.Dec.{eqb}
 use lib.ListN.{length}
 use Rattle.sources.specs.Sources.{wordsOf}
-use Rattle.answer_bytes.specs.Bytes.{bytesOf}
+use Rattle.lighting_abi.specs.AnswerBytesBytes.{bytesOf}
 use Rattle.block_shading.specs.BlockShading.{Shaded, shaded, blockShading}
 
 -- "a slice that isn't whole words counts as of wrong length": it has no words, which is wrong for all four

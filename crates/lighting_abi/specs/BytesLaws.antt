@@ -10,7 +10,7 @@ use lib.ListN.{length}
 use borrow.Author.Tests.{eq-eqb, eqb-true}
 use Rattle.sources.specs.Sources.{wordsOf, given}
 use Rattle.sources.specs.SourcesLaws.{length-words, given-bytes}
-use Rattle.answer_bytes.specs.Bytes.{bytesOf}
+use Rattle.lighting_abi.specs.AnswerBytesBytes.{bytesOf}
 use Rattle.block_shading.specs.BlockShading.{Shaded, shaded, eightOf}
 use Rattle.block_shading.specs.Answers.{isOff}
 use Rattle.block_shading.specs.AnswersLaws.{wrong-block, wrong-tables, wrong-fragment, wrong-answer, lit-answer, off-answer, bad-answer}

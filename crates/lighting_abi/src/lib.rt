@@ -1,4 +1,6 @@
 // Block shading for C and Rust: what a renderer links. A word, and each channel of the answer, is four bytes, the least first.
+mod answer_bytes;
+
 ghost use mathlib.Core.Path.{_≡_};
 ghost use Rattle.block_shading.specs.BlockShading.{shaded};
 ghost use Rattle.lighting_abi.specs.Bytes.{shadeBytes};
@@ -32,7 +34,7 @@ pub extern "C" fn lighting_shade_block(
     let none = [0u32; 0];
     let form = block_check::form(&none, block);
     if is_lit(form) {
-        let channels = slot_shading::shade_lit(
+        let channels = block_shading::slots::shade_lit(
             &none,
             block,
             &none,

@@ -15,6 +15,7 @@ use Rattle.tables.specs.Upload.{isData}
 use Rattle.tables.specs.Write.{writeIf}
 use Rattle.unit.specs.Fresh.{freshCache}
 use Rattle.unit.specs.HandOver.{Handed}
+use Rattle.unit.specs.declared.Cache.{Cache}
 use Rattle.lists.specs.ShadesLaws.{block-shades}
 use Rattle.lists.specs.States.{fresh as freshState}
 use Rattle.lists.specs.Calls.{Call, step, run}
@@ -48,7 +49,7 @@ lit-paints-refuted cs d =
     let h = hands-over dark empty 0 freshCache (replicate 328 0) empty 0 fresh-sound refl in
     let k = hands-over bright empty 0 freshCache (replicate 328 0) empty 0 fresh-sound refl in
     let black : cs ≡ 0 ∷ 0 ∷ 0 ∷ 255 ∷ 0 ∷ 0 ∷ 0 ∷ 255 ∷ [] =
-    paints cs _ _ dark empty (ap (λ (w : Handed). w .block) h) (ap (λ (w : Handed). length (w .tables)) h) refl (first .shades refl fragment answer refl refl) ∙ colours .black in
+    paints cs _ _ dark empty (ap (λ (w : Handed Cache). w .block) h) (ap (λ (w : Handed Cache). length (w .tables)) h) refl (first .shades refl fragment answer refl refl) ∙ colours .black in
     let white : cs ≡ 255 ∷ 255 ∷ 255 ∷ 255 ∷ 0 ∷ 0 ∷ 0 ∷ 255 ∷ [] =
-    paints cs _ _ bright empty (ap (λ (w : Handed). w .block) k) (ap (λ (w : Handed). length (w .tables)) k) refl (second .shades refl fragment answer refl refl) ∙ colours .white in
+    paints cs _ _ bright empty (ap (λ (w : Handed Cache). w .block) k) (ap (λ (w : Handed Cache). length (w .tables)) k) refl (second .shades refl fragment answer refl refl) ∙ colours .white in
     omega (arith, ap (λ (l : List ℕ). getD l 0 0) (sym black ∙ white))

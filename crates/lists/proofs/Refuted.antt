@@ -7,7 +7,7 @@ use mathlib.Core.List.{List, [], _∷_}
 use mathlib.Core.Bool.{Bool, true, false, cond, false≢true}
 use lib.ListN.{length, set, replicate}
 use lib.Dec.{eqb, lit<, lit≤}
-use Rattle.register_lighting.specs.Lighting.{lightingOf}
+use Rattle.decoding.specs.Lighting.{lightingOf}
 use Rattle.lighting.specs.Blank.{off}
 use Rattle.decoding.specs.Decode.{lightingOn, decoded}
 use Rattle.block.specs.Answers.{packedReading}
@@ -98,8 +98,8 @@ refuses-refuted d =
     let after = d 474 (lit≤ tt) (switchOn ∷ handOver ∷ []) (lit< tt) in
     let h = hands-over (replicate 474 0) (replicate 12288 0) 0 freshCache (replicate 328 0) (replicate 12288 0) 0 fresh-sound refl in
     stale _ _ (set (replicate 474 0) 0x08F 1) (replicate 12288 0)
-    (ap (λ (w : Handed). w .block) h ∙ packed-off (replicate 474 0) refl)
-    (ap (λ (w : Handed). length (w .tables)) h)
+    (ap (λ (w : Handed Cache). w .block) h ∙ packed-off (replicate 474 0) refl)
+    (ap (λ (w : Handed Cache). length (w .tables)) h)
     refl
     (after .shades refl fragment answer refl refl)
 
@@ -110,11 +110,11 @@ nothing-refuted d =
     stale (replicate 328 0) (replicate 12288 0) (set (replicate 474 0) 0x08F 1) (replicate 12288 0) refl refl refl (after .shades refl fragment answer refl refl)
 
 -- a hand-over that copies only the first time leaves a copy whose generation is not 0
-once-block : (s : State) → eqb (s .copy .generation) 0 ≡ false → step copiesOnce s handOver .copy .block ≡ s .copy .block
+once-block : (s : State Cache) → eqb (s .copy .generation) 0 ≡ false → step copiesOnce s handOver .copy .block ≡ s .copy .block
 unfolding step handOver copyingOnce copyingNothing
 once-block s e = rw e refl
 
-once-tables : (s : State) → eqb (s .copy .generation) 0 ≡ false → step copiesOnce s handOver .copy .tables ≡ s .copy .tables
+once-tables : (s : State Cache) → eqb (s .copy .generation) 0 ≡ false → step copiesOnce s handOver .copy .tables ≡ s .copy .tables
 unfolding step handOver copyingOnce copyingNothing
 once-tables s e = rw e refl
 
@@ -125,14 +125,14 @@ once-refuted d =
     let file : List ℕ = replicate 474 0 in
     let tables : List ℕ = replicate 12288 0 in
     let block : List ℕ = replicate 328 0 in
-    let first : State = run copiesOnce (fresh 474) (restoring ∷ handOver ∷ []) in
-    let lit : State = step copiesOnce first switchOn in
+    let first : State Cache = run copiesOnce (fresh freshCache 474) (restoring ∷ handOver ∷ []) in
+    let lit : State Cache = step copiesOnce first switchOn in
     let after = d 474 (lit≤ tt) (restoring ∷ handOver ∷ switchOn ∷ handOver ∷ []) (lit< tt) in
     let h = hands-over file tables 1 freshCache block tables 0 fresh-sound refl in
-    let g : eqb (first .copy .generation) 0 ≡ false = ap (λ (w : Handed). eqb (w .generation) 0) h in
+    let g : eqb (first .copy .generation) 0 ≡ false = ap (λ (w : Handed Cache). eqb (w .generation) 0) h in
     stale (step copiesOnce lit handOver .copy .block) (step copiesOnce lit handOver .copy .tables) (set file 0x08F 1) tables
-    (once-block lit g ∙ ap (λ (w : Handed). w .block) h ∙ packed-off file refl)
-    (ap length (once-tables lit g ∙ ap (λ (w : Handed). w .tables) h))
+    (once-block lit g ∙ ap (λ (w : Handed Cache). w .block) h ∙ packed-off file refl)
+    (ap length (once-tables lit g ∙ ap (λ (w : Handed Cache). w .tables) h))
     refl
     (after .shades refl fragment answer refl refl)
 

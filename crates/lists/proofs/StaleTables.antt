@@ -59,23 +59,23 @@ abbrev cache : Cache
 cache = refreshed lantern freshCache
 
 -- the copy has the unit's generation and tables of zeros
-no-tables-after : run copiesNoTables (freshState 474) scene ≡ state (unitState lantern ones 1 cache) (copyState block empty 1)
+no-tables-after : run copiesNoTables (freshState freshCache 474) scene ≡ state (unitState lantern ones 1 cache) (copyState block empty 1)
 unfolding run step freshState writeIf restoreIf last copyingNoTables fileRefusal tablesRefusal registerRefusal savedRefusal blockRefusal isData
 no-tables-after =
-    ap (λ (w : Handed). state (unitState lantern ones 1 (w .cache)) (copyState (w .block) empty (w .generation)))
+    ap (λ (w : Handed Cache). state (unitState lantern ones 1 (w .cache)) (copyState (w .block) empty (w .generation)))
     (hands-over lantern ones 1 freshCache (replicate 328 0) empty 0 fresh-sound refl)
 
 -- the copy has the unit's generation and the tables before
-tables-once-after : run copiesTablesOnce (freshState 474) scenes ≡ state (unitState lantern empty 2 (refreshed lantern cache)) (copyState block ones 2)
+tables-once-after : run copiesTablesOnce (freshState freshCache 474) scenes ≡ state (unitState lantern empty 2 (refreshed lantern cache)) (copyState block ones 2)
 unfolding run step freshState writeIf restoreIf last copyingNoTables copyingTablesOnce fileRefusal tablesRefusal registerRefusal savedRefusal blockRefusal isData
 tables-once-after =
-    ap (λ (w : Handed). run copiesTablesOnce (state (unitState lantern ones 1 (w .cache)) (copyState (w .block) (w .tables) (w .generation))) (restore empty ∷ handOver ∷ []))
+    ap (λ (w : Handed Cache). run copiesTablesOnce (state (unitState lantern ones 1 (w .cache)) (copyState (w .block) (w .tables) (w .generation))) (restore empty ∷ handOver ∷ []))
     (hands-over lantern ones 1 freshCache (replicate 328 0) empty 0 fresh-sound refl)
-    ∙ ap (λ (w : Handed). state (unitState lantern empty 2 (w .cache)) (copyState (w .block) ones (w .generation)))
+    ∙ ap (λ (w : Handed Cache). state (unitState lantern empty 2 (w .cache)) (copyState (w .block) ones (w .generation)))
     (hands-over lantern empty 2 cache block ones 1 (read-sound lantern freshCache fresh-sound .1) (rw (packed-length (decoded lantern)) refl))
 
 -- neither half of what demand 3 says after a list holds
-record Apart (I : Implementation) (calls : List Call) (s : State) : Type 0 where
+record Apart (I : Implementation Cache) (calls : List Call) (s : State Cache) : Type 0 where
   same : (s .unit .generation ≡ s .copy .generation → s .unit .tables ≡ s .copy .tables) → ⊥
   shades : (EndsHandedOver 474 calls → ShadesAs I (s .copy) (plain 474 calls)) → ⊥
 
@@ -87,10 +87,10 @@ falloffs e x n q =
 first : {l m : List ℕ} → l ≡ m → getD l 0 0 ≡ getD m 0 0
 first e = ap (λ (l : List ℕ). getD l 0 0) e
 
-no-tables-apart : Apart copiesNoTables scene (run copiesNoTables (freshState 474) scene)
+no-tables-apart : Apart copiesNoTables scene (run copiesNoTables (freshState freshCache 474) scene)
 unfolding EndsHandedOver HandsOver plainRun plainStep zeroMachine accepts does plainWrite isData
 no-tables-apart =
-    subst (λ (s : State). Apart copiesNoTables scene s) (sym no-tables-after)
+    subst (λ (s : State Cache). Apart copiesNoTables scene s) (sym no-tables-after)
     (record {
       same = λ h. omega (arith, first (h refl));
       shades =
@@ -98,10 +98,10 @@ no-tables-apart =
           omega (arith, first (sym (colours .unlit) ∙ falloffs empty ones refl (h refl fragment answer refl refl) ∙ colours .lit));
     })
 
-tables-once-apart : Apart copiesTablesOnce scenes (run copiesTablesOnce (freshState 474) scenes)
+tables-once-apart : Apart copiesTablesOnce scenes (run copiesTablesOnce (freshState freshCache 474) scenes)
 unfolding EndsHandedOver HandsOver plainRun plainStep zeroMachine accepts does plainWrite isData
 tables-once-apart =
-    subst (λ (s : State). Apart copiesTablesOnce scenes s) (sym tables-once-after)
+    subst (λ (s : State Cache). Apart copiesTablesOnce scenes s) (sym tables-once-after)
     (record {
       same = λ h. omega (arith, first (h refl));
       shades =

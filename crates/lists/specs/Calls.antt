@@ -42,9 +42,9 @@ module _ {Refused : ℕ → Type 0} where
   left s own t = t
   left s (instead u h) t = s
 
-module _ (I : Implementation) where
+module _ {C : Type 0} (I : Implementation C) where
   -- "Each call gets unit and copy as the last one left them"
-  unfoldable pub step : State → Call → State
+  unfoldable pub step : State C → Call → State C
   step s (Write f t r v) =
       let u = s .unit in
       let w = I .write (lent (u .file) f) (lent (u .tables) t) (u .generation) r v in
@@ -64,7 +64,7 @@ module _ (I : Implementation) where
       state (unitState (u .file) (u .tables) (u .generation) (w .cache)) (copyState (left (c .block) b (w .block)) (left (c .tables) ct (w .tables)) (w .generation))
 
   -- the number that the call returns: 0, or its refusal's
-  unfoldable pub answer : State → Call → ℕ
+  unfoldable pub answer : State C → Call → ℕ
   answer s (Write f t r v) =
       I .write (lent (s .unit .file) f) (lent (s .unit .tables) t) (s .unit .generation) r v .number
   answer s (Restore t saved) = I .restore (lent (s .unit .tables) t) (s .unit .generation) saved .number
@@ -72,6 +72,6 @@ module _ (I : Implementation) where
   answer s (HandOver f t ct b) =
       I .handOver (lent (s .unit .file) f) (lent (s .unit .tables) t) (s .unit .generation) (s .unit .cache) (lent (s .copy .block) b) (lent (s .copy .tables) ct) (s .copy .generation) .number
 
-  unfoldable pub run : State → List Call → State
+  unfoldable pub run : State C → List Call → State C
   run s [] = s
   run s (c ∷ cs) = run (step s c) cs

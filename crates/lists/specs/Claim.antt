@@ -32,14 +32,14 @@ shadeFrom registers entries fragment answer =
     let d = decoded registers in
     cond (d .on) (shaded 0 (eightOf (d .lighting) entries fragment)) (shaded 100 answer)
 
-module _ (I : Implementation) where
+module _ {C : Type 0} (I : Implementation C) where
   -- "block shading takes the copy's block and tables, 23 words of any bits and an answer of 8 words"
   abbrev pub ShadesAs : CopyState → Machine → Type 0
   ShadesAs c m =
       (fragment answer : List ℕ) → length fragment ≡ 23 → length answer ≡ 8 → I .blockShading (c .block) (c .tables) fragment answer ≡ shadeFrom (m .registers) (m .entries) fragment answer
 
   -- after a list, on a unit whose file has n words
-  pub record After (n : ℕ) (calls : List Call) (s : State) : Type 0 where
+  pub record After (n : ℕ) (calls : List Call) (s : State C) : Type 0 where
     -- at equal generations, the same entries: "Same entries are equal table slices, word for word."
     pub same : s .unit .generation ≡ s .copy .generation → s .unit .tables ≡ s .copy .tables
     pub shades : EndsHandedOver n calls → ShadesAs (s .copy) (plain n calls)
@@ -47,7 +47,7 @@ module _ (I : Implementation) where
   -- every list of fewer than 2^64 calls, from a fresh unit with a file of any accepted length and a fresh copy
   unfoldable pub Demand3 : Type 0
   Demand3 =
-      (n : ℕ) → 474 ≤ n → (calls : List Call) → length calls < 0x10000000000000000 → After n calls (run I (fresh n) calls)
+      (n : ℕ) → 474 ≤ n → (calls : List Call) → length calls < 0x10000000000000000 → After n calls (run I (fresh (I .emptyCache) n) calls)
 
 -- Beside it: within the bound a call returns 0 exactly when the plain machine accepts it, and neither 4 nor 7 is met.
 pub record Answered (n : ℕ) (c : Call) (number : ℕ) : Type 0 where
@@ -55,6 +55,6 @@ pub record Answered (n : ℕ) (c : Call) (number : ℕ) : Type 0 where
   pub not-4 : number ≡ 4 → ⊥
   pub not-7 : number ≡ 7 → ⊥
 
-unfoldable pub Answers : Implementation → Type 0
+unfoldable pub Answers : {C : Type 0} → Implementation C → Type 0
 Answers I =
-    (n : ℕ) → 474 ≤ n → (calls : List Call) (c : Call) → length calls + 1 < 0x10000000000000000 → Answered n c (answer I (run I (fresh n) calls) c)
+    (n : ℕ) → 474 ≤ n → (calls : List Call) (c : Call) → length calls + 1 < 0x10000000000000000 → Answered n c (answer I (run I (fresh (I .emptyCache) n) calls) c)

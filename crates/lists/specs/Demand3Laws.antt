@@ -9,6 +9,8 @@ use mathlib.Core.Bool.{Bool, true, false, cond}
 use lib.ListN.{length}
 use lib.Dec.{ltb, leb, eqb}
 use Rattle.refusals.specs.Lengths.{fileRefusal, tablesRefusal, registerRefusal, savedRefusal, blockRefusal, _else_}
+use Rattle.unit.specs.declared.Cache.{Cache}
+use Rattle.unit.specs.Fresh.{freshCache}
 use Rattle.lists.specs.Ours.{ours}
 use Rattle.lists.specs.States.{State, fresh}
 use Rattle.lists.specs.Calls.{Call, step, run, answer}
@@ -25,7 +27,7 @@ use Rattle.lists.specs.HandOverCallLaws.{hand-overs, accepts-hand-over, 
 
 module _ (n : ℕ) where
   -- one call
-  module _ {k : ℕ} {s : State} {m : Machine} (i : Inv n k s m) (few : k < 0xFFFFFFFFFFFFFFFF) where
+  module _ {k : ℕ} {s : State Cache} {m : Machine} (i : Inv n k s m) (few : k < 0xFFFFFFFFFFFFFFFF) where
     steps : (c : Call) → Inv n (suc k) (step ours s c) (plainStep n m c)
     steps (Write f t r v) = writes i few f t r v
     steps (Restore t saved) = restores i few t saved
@@ -40,13 +42,13 @@ module _ (n : ℕ) where
     shows (HandOver f t ct b) e = hand-overs i f t ct b .1 e
 
   -- every list
-  runs : (cs : List Call) {k : ℕ} {s : State} {m : Machine} → Inv n k s m → k + length cs < 0x10000000000000000 → Inv n (k + length cs) (run ours s cs) (plainRun n m cs)
+  runs : (cs : List Call) {k : ℕ} {s : State Cache} {m : Machine} → Inv n k s m → k + length cs < 0x10000000000000000 → Inv n (k + length cs) (run ours s cs) (plainRun n m cs)
   unfolding run plainRun
   runs [] {k} i few = rw (add-zero k) i
   runs (c ∷ cs) {k} i few =
       rw (add-suc k (length cs), ← (suc-add k (length cs))) (runs cs (steps i (omega arith) c) (omega arith))
 
-  ends : (cs : List Call) {k : ℕ} {s : State} {m : Machine} → Inv n k s m → k + length cs < 0x10000000000000000 → EndsHandedOver n cs → Shows (run ours s cs .copy) (plainRun n m cs)
+  ends : (cs : List Call) {k : ℕ} {s : State Cache} {m : Machine} → Inv n k s m → k + length cs < 0x10000000000000000 → EndsHandedOver n cs → Shows (run ours s cs .copy) (plainRun n m cs)
   unfolding run plainRun EndsHandedOver
   ends [] i few e = absurd e
   ends (c ∷ []) i few e = shows i (omega arith) c e
@@ -64,7 +66,7 @@ every-list-shades-alike n big calls few =
           (block-shades (plain n calls .registers) (plain n calls .entries) fragment answer (ap length (sym (after .unit .entries)) ∙ after .unit .tablesLength) hf ha);
     }
   where
-    after : Inv n (0 + length calls) (run ours (fresh n) calls) (plain n calls)
+    after : Inv n (0 + length calls) (run ours (fresh freshCache n) calls) (plain n calls)
     after = runs n calls (fresh-holds n big) (omega arith)
 
 -- a refusal by a length or a register is neither 4 nor 7
@@ -104,7 +106,7 @@ by-refusal : (n : ℕ) (c : Call) (number q : ℕ) → number ≡ q → eqb q 0 
 by-refusal n c number q e a h =
     record { accepted = ap (λ (x : ℕ). eqb x 0) e ∙ a; not-4 = λ p. h .0 (sym e ∙ p); not-7 = λ p. h .1 (sym e ∙ p) }
 
-module _ {n k : ℕ} {s : State} {m : Machine} (i : Inv n k s m) (few : k < 0xFFFFFFFFFFFFFFFF) where
+module _ {n k : ℕ} {s : State Cache} {m : Machine} (i : Inv n k s m) (few : k < 0xFFFFFFFFFFFFFFFF) where
   answers : (c : Call) → Answered n c (answer ours s c)
   answers (Write f t r v) =
       by-refusal n (Write f t r v) _ _ (write-answer i few f t r v) (accepts-write i few f t r v)

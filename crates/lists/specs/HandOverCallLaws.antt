@@ -35,7 +35,7 @@ taken-number c t g ct cg = go (eqb g cg)
     go true = refl
     go false = refl
 
-module _ {n k : ℕ} {s : State} {m : Machine} (i : Inv n k s m) where
+module _ {n k : ℕ} {s : State Cache} {m : Machine} (i : Inv n k s m) where
   -- 7 is not met
   packs : packable (refreshed (s .unit .file) (s .unit .cache) .decoded) ≡ true
   packs = rw (decodes i) (decoded-packable (m .registers))
@@ -59,7 +59,7 @@ module _ {n k : ℕ} {s : State} {m : Machine} (i : Inv n k s m) where
       ∙ cc (size-lent (s .unit .file) f (i .unit .fileLength), size-lent (s .unit .tables) t (i .unit .tablesLength), size-lent (s .copy .tables) ct (i .copyLength), size-lent (s .copy .block) b (i .blockLength))
 
   -- unit and copy after a hand-over
-  abbrev handedTo : Lent NotTables → Lent NotBlock → Handed → State
+  abbrev handedTo : Lent NotTables → Lent NotBlock → Handed Cache → State Cache
   handedTo ct b w =
       state (unitState (s .unit .file) (s .unit .tables) (s .unit .generation) (w .cache)) (copyState (left (s .copy .block) b (w .block)) (left (s .copy .tables) ct (w .tables)) (w .generation))
 
@@ -81,7 +81,7 @@ module _ {n k : ℕ} {s : State} {m : Machine} (i : Inv n k s m) where
       subst (λ (x : Bool). Inv n (suc k) (step ours s (HandOver f t ct b)) (cond x m m) × (x ≡ true → Shows (step ours s (HandOver f t ct b) .copy) (cond x m m))) (accepts-hand-over f t ct b)
       (go (handOverRefusal (length (lent (s .unit .file) f)) (length (lent (s .unit .tables) t)) (length (lent (s .copy .tables) ct)) (length (lent (s .copy .block) b))) refl)
     where
-      after : ℕ → State
+      after : ℕ → State Cache
       after q =
           handedTo ct b (handOverIf q (lent (s .unit .file) f) (lent (s .unit .tables) t) (s .unit .generation) (s .unit .cache) (lent (s .copy .block) b) (lent (s .copy .tables) ct) (s .copy .generation))
 

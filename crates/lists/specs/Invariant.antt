@@ -6,14 +6,14 @@ use mathlib.Core.Logic.{_⊎_}
 use mathlib.Core.Bool.{true}
 use lib.ListN.{length, take}
 use Rattle.unit.specs.declared.Cache.{Cache}
-use Rattle.registers_read.specs.RegistersRead.{keptWords}
+use Rattle.decoding.specs.RegistersRead.{keptWords}
 use Rattle.decoding.specs.Decode.{decoded}
 use Rattle.block.specs.Answers.{packedReading}
 use Rattle.lists.specs.States.{UnitState, CopyState, State}
 use Rattle.lists.specs.Plain.{Machine}
 
 -- from u to w the unit's generation and tables stay as they were, or its generation rises by 1
-abbrev pub Rises : UnitState → UnitState → Type 0
+abbrev pub Rises : UnitState Cache → UnitState Cache → Type 0
 Rises u w =
     ((w .generation ≡ u .generation) × (w .tables ≡ u .tables)) ⊎ (w .generation ≡ u .generation + 1)
 
@@ -22,7 +22,7 @@ abbrev pub Sound : Cache → Type 0
 Sound c = c .filled ≡ true → (f : List ℕ) → keptWords f ≡ c .kept → decoded f ≡ c .decoded
 
 -- the unit, whose file has n words, holds what the machine holds
-pub record Matches (n : ℕ) (u : UnitState) (m : Machine) : Type 0 where
+pub record Matches (n : ℕ) (u : UnitState Cache) (m : Machine) : Type 0 where
   pub fileLength : length (u .file) ≡ n
   pub registers : take 474 (u .file) ≡ m .registers
   pub entries : u .tables ≡ m .entries
@@ -30,7 +30,7 @@ pub record Matches (n : ℕ) (u : UnitState) (m : Machine) : Type 0 where
   pub sound : Sound (u .cache)
 
 -- after k calls
-pub record Inv (n k : ℕ) (s : State) (m : Machine) : Type 0 where
+pub record Inv (n k : ℕ) (s : State Cache) (m : Machine) : Type 0 where
   pub unit : Matches n (s .unit) m
   pub blockLength : length (s .copy .block) ≡ 328
   pub copyLength : length (s .copy .tables) ≡ 12288

@@ -11,6 +11,7 @@ use lib.ListN.{take, replicate, length-replicate}
 use Rattle.tables.specs.Generation.{last}
 use Rattle.tables.specs.GenerationLaws.{below-last}
 use Rattle.unit.specs.Fresh.{freshCache}
+use Rattle.unit.specs.declared.Cache.{Cache}
 use Rattle.lists.specs.States.{UnitState, State, state, fresh}
 use Rattle.lists.specs.Plain.{Machine, zeroMachine}
 use Rattle.lists.specs.Invariant.{Rises, Matches, Inv}
@@ -20,7 +21,7 @@ take-zeros zero n h = refl
 take-zeros (suc a) zero h = absurd (omega arith)
 take-zeros (suc a) (suc n) h = ap (λ (l : List ℕ). 0 ∷ l) (take-zeros a n (omega arith))
 
-pub fresh-holds : (n : ℕ) → 474 ≤ n → Inv n 0 (fresh n) zeroMachine
+pub fresh-holds : (n : ℕ) → 474 ≤ n → Inv n 0 (fresh freshCache n) zeroMachine
 unfolding fresh zeroMachine freshCache
 fresh-holds n big =
     record {
@@ -39,7 +40,7 @@ fresh-holds n big =
       agree = λ _. refl;
     }
 
-module _ {n k : ℕ} {s : State} {m : Machine} (i : Inv n k s m) where
+module _ {n k : ℕ} {s : State Cache} {m : Machine} (i : Inv n k s m) where
   pub stays : Inv n (suc k) s m
   stays =
       record {
@@ -51,7 +52,7 @@ module _ {n k : ℕ} {s : State} {m : Machine} (i : Inv n k s m) where
         agree = i .agree;
       }
 
-  pub moves : {u : UnitState} {q : Machine} → Matches n u q → Rises (s .unit) u → Inv n (suc k) (state u (s .copy)) q
+  pub moves : {u : UnitState Cache} {q : Machine} → Matches n u q → Rises (s .unit) u → Inv n (suc k) (state u (s .copy)) q
   moves h (inl (e, t)) =
       record {
         unit = h;

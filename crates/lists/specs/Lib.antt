@@ -3,6 +3,7 @@ pub mod Calls
 pub mod Plain
 pub mod Claim
 pub mod Ours
+pub mod InWords
 pub mod Wrong
 pub mod LentLaws
 pub mod Invariant
@@ -13,3 +14,8 @@ pub mod ReadCallLaws
 pub mod HandOverCallLaws
 pub mod ShadesLaws
 pub mod Demand3Laws
+pub mod Meant
+pub mod MeantLaws
+pub mod InWordsLaws
+pub mod LentCache
+pub mod LentCacheLaws

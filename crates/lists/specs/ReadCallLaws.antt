@@ -12,12 +12,12 @@ use lib.Dec.{leb, eqb, lit<, lit≤, eqb·suc-zero}
 use borrow.Author.Tests.{leb-true}
 use Rattle.refusals.specs.Lengths.{fileRefusal}
 use Rattle.tables.specs.RefusalLaws.{passed, passed-test}
-use Rattle.registers_read.specs.RegistersRead.{keptWords}
+use Rattle.decoding.specs.RegistersRead.{keptWords}
 use Rattle.decoding.specs.Decode.{decoded}
 use Rattle.decoding.specs.DecodeLaws.{decoded-same}
 use Rattle.unit.specs.declared.Cache.{Cache}
-use Rattle.registers_read.specs.Comparing.{sameWords}
-use Rattle.registers_read.specs.ComparingLaws.{same-equal}
+use Rattle.decoding.specs.Comparing.{sameWords}
+use Rattle.decoding.specs.ComparingLaws.{same-equal}
 use Rattle.unit.specs.CachedRead.{current, readAnew, refreshed, cachedReadIf}
 use Rattle.lists.specs.Ours.{ours}
 use Rattle.lists.specs.States.{State, unitState, state}
@@ -64,7 +64,7 @@ read-sound f c g = go (c .filled && sameWords (c .kept) (keptWords f)) refl
         (sym (g (both .0) f (sym (same-equal (c .kept) (keptWords f) (both .1)))), g)
     go false e = (refl, λ _ r p. decoded-same r f p)
 
-module _ {n k : ℕ} {s : State} {m : Machine} (i : Inv n k s m) where
+module _ {n k : ℕ} {s : State Cache} {m : Machine} (i : Inv n k s m) where
   -- the file's lighting is the machine's
   pub decodes : refreshed (s .unit .file) (s .unit .cache) .decoded ≡ decoded (m .registers)
   decodes =
@@ -80,7 +80,7 @@ module _ {n k : ℕ} {s : State} {m : Machine} (i : Inv n k s m) where
       ∙ ap (λ (a : ℕ). leb 474 a) (size-lent (s .unit .file) f (i .unit .fileLength))
 
   -- unit and copy with another cache
-  abbrev pub cachedWith : Cache → State
+  abbrev pub cachedWith : Cache → State Cache
   cachedWith c = state (unitState (s .unit .file) (s .unit .tables) (s .unit .generation) c) (s .copy)
 
   -- the unit with the cache that a read of its own file leaves

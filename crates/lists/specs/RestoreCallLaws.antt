@@ -10,6 +10,7 @@ use lib.Dec.{eqb, eqb·suc-zero}
 use Rattle.tables.specs.Restore.{Restored, restoreRefusal, restoreIf}
 use Rattle.tables.specs.RestoreLaws.{restore-number}
 use Rattle.tables.specs.RefusalLaws.{restore-lengths, restore-test}
+use Rattle.unit.specs.declared.Cache.{Cache}
 use Rattle.lists.specs.Ours.{ours}
 use Rattle.lists.specs.States.{State, unitState, state}
 use Rattle.lists.specs.Calls.{Lent, NotTables, lent, left, step, answer}
@@ -20,9 +21,9 @@ use Rattle.lists.specs.LentLaws.{size-lent, left-lent, is-own}
 use Rattle.lists.specs.Invariant.{Inv}
 use Rattle.lists.specs.InvariantLaws.{stays, moves, not-last}
 
-module _ {n k : ℕ} {s : State} {m : Machine} (i : Inv n k s m) (few : k < 0xFFFFFFFFFFFFFFFF) where
+module _ {n k : ℕ} {s : State Cache} {m : Machine} (i : Inv n k s m) (few : k < 0xFFFFFFFFFFFFFFFF) where
   -- unit and copy after a restore
-  abbrev restoredTo : Lent NotTables → Restored → State
+  abbrev restoredTo : Lent NotTables → Restored → State Cache
   restoredTo t w =
       state (unitState (s .unit .file) (left (s .unit .tables) t (w .tables)) (w .generation) (s .unit .cache)) (s .copy)
 

@@ -15,6 +15,7 @@ use Rattle.tables.specs.Generation.{raised}
 use Rattle.tables.specs.Write.{Wrote, writeRefusal, writeIf, write}
 use Rattle.tables.specs.WriteLaws.{write-data, write-register, write-number}
 use Rattle.tables.specs.RefusalLaws.{write-lengths, write-test}
+use Rattle.unit.specs.declared.Cache.{Cache}
 use Rattle.lists.specs.Ours.{ours}
 use Rattle.lists.specs.States.{State, unitState, state}
 use Rattle.lists.specs.Calls.{Lent, ShortFile, NotTables, lent, left, step, answer}
@@ -25,7 +26,7 @@ use Rattle.lists.specs.LentLaws.{size-lent, left-lent, is-own}
 use Rattle.lists.specs.Invariant.{Rises, Matches, Inv}
 use Rattle.lists.specs.InvariantLaws.{stays, moves, not-last}
 
-module _ {n k : ℕ} {s : State} {m : Machine} (i : Inv n k s m) (few : k < 0xFFFFFFFFFFFFFFFF) where
+module _ {n k : ℕ} {s : State Cache} {m : Machine} (i : Inv n k s m) (few : k < 0xFFFFFFFFFFFFFFFF) where
   -- the word of 1C5 is the machine's
   same-index : index (s .unit .file) ≡ index (m .registers)
   same-index =
@@ -51,7 +52,7 @@ module _ {n k : ℕ} {s : State} {m : Machine} (i : Inv n k s m) (few : k < 0xFF
       go false h = inl (refl, put-same t j v h ∙ e)
 
   -- unit and copy after a write
-  abbrev written : Lent ShortFile → Lent NotTables → Wrote → State
+  abbrev written : Lent ShortFile → Lent NotTables → Wrote → State Cache
   written f t w =
       state (unitState (left (s .unit .file) f (w .file)) (left (s .unit .tables) t (w .tables)) (w .generation) (s .unit .cache)) (s .copy)
 

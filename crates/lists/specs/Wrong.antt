@@ -7,15 +7,17 @@ use lib.Dec.{eqb}
 use Rattle.tables.specs.Write.{write, wrote}
 use Rattle.tables.specs.Restore.{restore}
 use Rattle.unit.specs.declared.Cache.{Cache}
+use Rattle.unit.specs.Fresh.{freshCache}
 use Rattle.unit.specs.CachedRead.{cachedRead}
 use Rattle.unit.specs.HandOver.{Handed, handed, handOver}
 use Rattle.block_shading.specs.BlockShading.{Shaded, shaded, blockShading}
 use Rattle.lists.specs.States.{Implementation}
 
 -- "A unit that refuses every write"
-abbrev pub refusesWrites : Implementation
+abbrev pub refusesWrites : Implementation Cache
 refusesWrites =
     record {
+      emptyCache = freshCache;
       write = λ f t g r v. wrote 3 f t g;
       restore = restore;
       cachedRead = cachedRead;
@@ -24,9 +26,10 @@ refusesWrites =
     }
 
 -- "a shader painting one colour"
-abbrev pub paintsOne : List ℕ → Implementation
+abbrev pub paintsOne : List ℕ → Implementation Cache
 paintsOne colours =
     record {
+      emptyCache = freshCache;
       write = write;
       restore = restore;
       cachedRead = cachedRead;
@@ -38,9 +41,10 @@ paintsOne colours =
 unfoldable pub painted : List ℕ → Shaded → Shaded
 painted colours s = cond (eqb (s .number) 0) (shaded 0 colours) s
 
-abbrev pub paintsLit : List ℕ → Implementation
+abbrev pub paintsLit : List ℕ → Implementation Cache
 paintsLit colours =
     record {
+      emptyCache = freshCache;
       write = write;
       restore = restore;
       cachedRead = cachedRead;
@@ -49,14 +53,15 @@ paintsLit colours =
     }
 
 -- "a hand-over that copies nothing": it reads and answers as ours
-unfoldable pub copyingNothing : List ℕ → List ℕ → ℕ → Cache → List ℕ → List ℕ → ℕ → Handed
+unfoldable pub copyingNothing : List ℕ → List ℕ → ℕ → Cache → List ℕ → List ℕ → ℕ → Handed Cache
 copyingNothing f t g c b ct cg =
     let w = handOver f t g c b ct cg in
     handed (w .number) (w .cache) b ct cg
 
-abbrev pub copiesNothing : Implementation
+abbrev pub copiesNothing : Implementation Cache
 copiesNothing =
     record {
+      emptyCache = freshCache;
       write = write;
       restore = restore;
       cachedRead = cachedRead;
@@ -65,14 +70,15 @@ copiesNothing =
     }
 
 -- a hand-over that copies no tables: the copy takes the block and the generation
-unfoldable pub copyingNoTables : List ℕ → List ℕ → ℕ → Cache → List ℕ → List ℕ → ℕ → Handed
+unfoldable pub copyingNoTables : List ℕ → List ℕ → ℕ → Cache → List ℕ → List ℕ → ℕ → Handed Cache
 copyingNoTables f t g c b ct cg =
     let w = handOver f t g c b ct cg in
     handed (w .number) (w .cache) (w .block) ct (w .generation)
 
-abbrev pub copiesNoTables : Implementation
+abbrev pub copiesNoTables : Implementation Cache
 copiesNoTables =
     record {
+      emptyCache = freshCache;
       write = write;
       restore = restore;
       cachedRead = cachedRead;
@@ -81,12 +87,13 @@ copiesNoTables =
     }
 
 -- "one that copies only the first time": while the copy's generation is 0
-unfoldable pub copyingOnce : List ℕ → List ℕ → ℕ → Cache → List ℕ → List ℕ → ℕ → Handed
+unfoldable pub copyingOnce : List ℕ → List ℕ → ℕ → Cache → List ℕ → List ℕ → ℕ → Handed Cache
 copyingOnce f t g c b ct cg = cond (eqb cg 0) (handOver f t g c b ct cg) (copyingNothing f t g c b ct cg)
 
-abbrev pub copiesOnce : Implementation
+abbrev pub copiesOnce : Implementation Cache
 copiesOnce =
     record {
+      emptyCache = freshCache;
       write = write;
       restore = restore;
       cachedRead = cachedRead;
@@ -95,12 +102,13 @@ copiesOnce =
     }
 
 -- one that copies the tables only the first time, while the copy's generation is 0: the block and the generation it takes every time
-unfoldable pub copyingTablesOnce : List ℕ → List ℕ → ℕ → Cache → List ℕ → List ℕ → ℕ → Handed
+unfoldable pub copyingTablesOnce : List ℕ → List ℕ → ℕ → Cache → List ℕ → List ℕ → ℕ → Handed Cache
 copyingTablesOnce f t g c b ct cg = cond (eqb cg 0) (handOver f t g c b ct cg) (copyingNoTables f t g c b ct cg)
 
-abbrev pub copiesTablesOnce : Implementation
+abbrev pub copiesTablesOnce : Implementation Cache
 copiesTablesOnce =
     record {
+      emptyCache = freshCache;
       write = write;
       restore = restore;
       cachedRead = cachedRead;

@@ -10,8 +10,8 @@ use Rattle.lighting.specs.declared.Lighting.{Lighting}
 use Rattle.block.specs.Words.{headWords, lightWords, lightAt, slotWords, slotsWords, packed}
 use Rattle.block.specs.Formed.{slotAt}
 use Rattle.block.specs.ListLaws.{length-head, length-slots, length-packed}
-use Rattle.block_rows.specs.Put.{putWords}
-use Rattle.block_rows.specs.PutLaws.{after, whole}
+use Rattle.packing.specs.Put.{putWords}
+use Rattle.packing.specs.PutLaws.{after, whole}
 
 pub none-put : (l : Lighting) (b : List ℕ) → b ≡ putWords b 40 (slotsWords l 0)
 unfolding putWords slotsWords

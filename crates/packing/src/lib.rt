@@ -1,7 +1,13 @@
 // Packing: the block of a lighting, as the words of the hardware renderer's uniform block, in the order its shader declares them.
-use block_rows::put_zeros;
-use head_words::put_head;
-use light_words::put_light;
+pub mod accepted;
+mod flag_words;
+mod head_words;
+mod light_words;
+mod rows;
+
+use crate::head_words::put_head;
+use crate::light_words::put_light;
+use crate::rows::put_zeros;
 use lighting::Light;
 use lighting::Lighting;
 use lighting::Slot;
@@ -15,7 +21,7 @@ ghost use Rattle.refusals.specs.Numbers.{outcomeNumber};
 ghost use Rattle.block.specs.Words.{lightWords, packed};
 ghost use Rattle.block.specs.Formed.{slotAt};
 ghost use Rattle.block.specs.Answers.{inRange, packing, packs};
-ghost use Rattle.block_rows.specs.Put.{putWords};
+ghost use Rattle.packing.specs.Put.{putWords};
 
 // Each slot's part by itself: its light's words, or zeros where it isn't lit.
 fn put_slot(block: &mut [u32], slot: Slot, lit: bool, light: Light)
@@ -50,7 +56,7 @@ pub fn pack(lighting: Lighting, block: &mut [u32]) -> Outcome
     if block.len() != 328 {
         return Outcome::Refused(Refusal::WrongBlock);
     }
-    if block_accepted::acceptable(lighting) {
+    if accepted::acceptable(lighting) {
         fill(block, lighting);
         return Outcome::Done;
     }

@@ -1,7 +1,7 @@
 -- The text of some lines, by computing.
 use mathlib.Core.Path.{_≡_, refl}
 use mathlib.Core.List.{[], _∷_}
-use Rattle.decimals.specs.Decimal.{decimal}
+use Rattle.printing.specs.Decimal.{decimal}
 use Rattle.printing.specs.Text.{gap, line, refusedLine}
 
 -- `0 9 10 99 100 255 1 0`

@@ -3,7 +3,7 @@
 use Prim.Native.Nat.{ℕ, _<_}
 use mathlib.Core.List.{List, [], _∷_, _++_}
 use lib.ListN.{getD}
-use Rattle.decimals.specs.Decimal.{decimal}
+use Rattle.printing.specs.Decimal.{decimal}
 
 -- what follows a number, where `rest` are the numbers still to come: a space, and a newline after the last
 unfoldable pub gap : List ℕ → ℕ

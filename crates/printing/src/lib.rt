@@ -1,12 +1,15 @@
 // The text that a capture prints, written into a buffer from a place on: a fragment's line, `off`, `refused N`. Each function answers the
 // place after what it wrote, and no line is longer than 32 bytes.
-use decimals::put_decimal;
+mod decimals;
+mod writing;
+
+use crate::decimals::put_decimal;
 ghost use mathlib.Core.Path.{_≡_};
 ghost use mathlib.Core.Bool.{cond};
 ghost use lib.Dec.{eqb};
 ghost use Prim.Native.Nat.{_+_, _≤_, _<_};
 ghost use lib.ListN.{length};
-ghost use Rattle.writing.specs.Writing.{out as outAt, puts};
+ghost use Rattle.printing.specs.Writing.{out as outAt, puts};
 ghost use Rattle.printing.specs.Text.{line, offLine, refusedLine, Bytes};
 
 // What follows number i of a line of eight.

@@ -10,6 +10,7 @@ use Rattle.refusals.specs.Lengths.{tablesRefusal, answerRefusal}
 use Rattle.lighting.specs.declared.Lighting.{Lighting}
 use Rattle.block.specs.Answers.{accepted, lightingRefusal}
 use Rattle.shading.specs.Shade.{shadeOf}
+use Rattle.shading.specs.LawLaws.{shade-law}
 use Rattle.shading.specs.Answers.{shading, shadeRefusal, shades}
 
 module _ (l : Lighting) (tables : List ℕ) (quaternion view : List Float) (texels : List (List Float)) (answer : List ℕ) where
@@ -32,4 +33,4 @@ module _ (l : Lighting) (tables : List ℕ) (quaternion view : List Float) (texe
       → k ≡ shadeOf l tables quaternion view texels
       → shading 0 k ≡ shades l tables quaternion view texels answer
   unfolding shades shadeRefusal tablesRefusal answerRefusal lightingRefusal
-  done k e f a p = simp (eq-eqb (length tables) 12288 e, eq-eqb (length answer) 8 f, a, p)
+  done k e f a p = simp (eq-eqb (length tables) 12288 e, eq-eqb (length answer) 8 f, a, p, shade-law)

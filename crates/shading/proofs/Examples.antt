@@ -25,23 +25,23 @@ use Rattle.lighting.specs.declared.Bump.the-variants.{Flat}
 use Rattle.lighting.specs.declared.Distance.{Distance}
 use Rattle.lighting.specs.declared.Distance.the-variants.{Without, Scaled}
 use Rattle.block.specs.Answers.{bumpUnit, shadowUnit}
-use Rattle.shade_surface.specs.Surface.{lengthOf, quaternionOver, unitQuaternion, tangentOf, unitIf, frameOf}
-use Rattle.shade_bump.specs.Bump.{perturbed, rebuiltZ, rebuilt, surfaceNormal, surfaceTangent}
-use Rattle.shade_shadow.specs.Shadow.{inverted, shadowTexel}
-use Rattle.shade_light.specs.Toward.{lightVector, halfOf, towardOf, offsetOf, awayOf}
-use Rattle.shade_inputs.specs.Inputs.{alongTangent, inputsBy, inputsOf}
-use Rattle.shade_facing.specs.Facing.{facingOf, highlightsOf, factorBy, factorOf}
-use Rattle.shade_values.specs.Values.{present}
-use Rattle.shade_step.specs.Lookups.{valueOf, valueIf, spotValue, fresnelValue, distanceBy, distanceValue, valuesBy, valuesOf}
-use Rattle.shade_distance.specs.Distance.{distancePlace}
-use Rattle.shade_places.specs.Places.{placeOf, inputOf}
-use Rattle.shade_shadow.specs.Shadow.{primaryOf, secondaryOf, alphaOf}
-use Rattle.shade_terms.specs.Terms.{diffuseOf, timesIf, specular0Of, reflectedOf, specular1Of, specularBy, specularOf}
-use Rattle.shade_sums.specs.Sums.{shadowFor, addedOf, summedOf, withLightBy, withLight}
-use Rattle.shade_channels.specs.Channels.{shadowedAlpha, finishOf}
-use Rattle.shade_step.specs.Step.{stepOf}
-use Rattle.lighting_parts.specs.Parts.{lightingLookups, lightingSettings, lightingFrame, lightingShadow, finishedOf}
-use Rattle.light_sums.specs.Sums.{sumsBy}
+use Rattle.surface.specs.Surface.{lengthOf, quaternionOver, unitQuaternion, tangentOf, unitIf, frameOf}
+use Rattle.surface.specs.Bump.{perturbed, rebuiltZ, rebuilt, surfaceNormal, surfaceTangent}
+use Rattle.surface.specs.Shadow.{inverted, shadowTexel}
+use Rattle.light_tables.specs.Toward.{lightVector, halfOf, towardOf, offsetOf, awayOf}
+use Rattle.light_tables.specs.Inputs.{alongTangent, inputsBy, inputsOf}
+use Rattle.surface.specs.Facing.{facingOf, highlightsOf, factorBy, factorOf}
+use Rattle.light_steps.specs.Values.{present}
+use Rattle.light_steps.specs.Lookups.{valueOf, valueIf, spotValue, fresnelValue, distanceBy, distanceValue, valuesBy, valuesOf}
+use Rattle.light_tables.specs.Distance.{distancePlace}
+use Rattle.light_tables.specs.Places.{placeOf, inputOf}
+use Rattle.surface.specs.Shadow.{primaryOf, secondaryOf, alphaOf}
+use Rattle.light_steps.specs.Terms.{diffuseOf, timesIf, specular0Of, reflectedOf, specular1Of, specularBy, specularOf}
+use Rattle.light_steps.specs.Sums.{shadowFor, addedOf, summedOf, withLightBy, withLight}
+use Rattle.shading.specs.Channels.{shadowedAlpha, finishOf}
+use Rattle.light_steps.specs.Step.{stepOf}
+use Rattle.shading.specs.Parts.{lightingLookups, lightingSettings, lightingFrame, lightingShadow, finishedOf}
+use Rattle.shading.specs.Sums.{sumsBy}
 use Rattle.shading.specs.Shade.{sumsOf, shadeBy, shadeOf, coloursOf}
 
 abbrev half : Float

@@ -8,7 +8,7 @@ use lib.Ieee.{Float}
 use Rattle.refusals.specs.Lengths.{tablesRefusal, answerRefusal, _else_}
 use Rattle.lighting.specs.declared.Lighting.{Lighting}
 use Rattle.block.specs.Answers.{lightingRefusal}
-use Rattle.shading.specs.Shade.{shadeOf}
+use Rattle.shading.specs.LawShade.{shade}
 
 -- A number and the answer slice as it stands afterwards.
 pub record Shading : Type 0 where
@@ -26,4 +26,4 @@ shadeRefusal l tables answer = tablesRefusal (length tables) else (answerRefusal
 unfoldable pub shades : Lighting → List ℕ → List Float → List Float → List (List Float) → List ℕ → Shading
 shades l tables quaternion view texels answer =
     shading (shadeRefusal l tables answer)
-    (cond (eqb (shadeRefusal l tables answer) 0) (shadeOf l tables quaternion view texels) answer)
+    (cond (eqb (shadeRefusal l tables answer) 0) (shade l tables quaternion view texels) answer)

@@ -4,10 +4,10 @@ use mathlib.Core.List.{List, map}
 use lib.Ieee.{Float}
 use Rattle.binary32.specs.Quantize.{channelOf}
 use Rattle.lighting.specs.declared.Lighting.{Lighting}
-use Rattle.shade_types.specs.declared.Frame.{Frame}
-use Rattle.shade_types.specs.declared.Sums.{Sums}
-use Rattle.lighting_parts.specs.Parts.{lightingLookups, lightingSettings, lightingFrame, lightingShadow, finishedOf}
-use Rattle.light_sums.specs.Sums.{sumsBy}
+use Rattle.surface.specs.declared.types.Frame.{Frame}
+use Rattle.surface.specs.declared.types.Sums.{Sums}
+use Rattle.shading.specs.Parts.{lightingLookups, lightingSettings, lightingFrame, lightingShadow, finishedOf}
+use Rattle.shading.specs.Sums.{sumsBy}
 
 unfoldable pub sumsOf : List ℕ → Lighting → Frame → List Float → ℕ → Sums
 sumsOf tables l frame shadow k =

@@ -11,14 +11,14 @@ use Rattle.binary32.specs.Quantize.{quantizedOf}
 use Rattle.vectors.specs.Vectors.{at}
 use Rattle.lighting.specs.declared.Light.{Light}
 use Rattle.lighting.specs.declared.Lighting.{Lighting}
-use Rattle.shade_types.specs.declared.Frame.{Frame}
-use Rattle.shade_types.specs.declared.Lookups.{Lookups}
-use Rattle.shade_types.specs.declared.Settings.{Settings}
-use Rattle.shade_sums.specs.Sums.{addedOf, summedOf, withLightBy, withLight}
-use Rattle.shade_channels.specs.Channels.{shadowedAlpha, finishOf}
-use Rattle.shade_step.specs.Step.{stepOf}
-use Rattle.lighting_parts.specs.Parts.{lightingSettings, finishedOf}
-use Rattle.light_sums.specs.Sums.{sumsBy}
+use Rattle.surface.specs.declared.types.Frame.{Frame}
+use Rattle.surface.specs.declared.types.Lookups.{Lookups}
+use Rattle.surface.specs.declared.types.Settings.{Settings}
+use Rattle.light_steps.specs.Sums.{addedOf, summedOf, withLightBy, withLight}
+use Rattle.shading.specs.Channels.{shadowedAlpha, finishOf}
+use Rattle.light_steps.specs.Step.{stepOf}
+use Rattle.shading.specs.Parts.{lightingSettings, finishedOf}
+use Rattle.shading.specs.Sums.{sumsBy}
 use Rattle.shading.specs.Shade.{sumsOf, shadeBy, shadeOf}
 
 neither : (b : Bool) → (b && false) ≡ false

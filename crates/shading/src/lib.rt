@@ -1,4 +1,10 @@
 // The shading of a fragment from a lighting.
+pub mod answer_words;
+mod channels;
+mod law;
+pub mod parts;
+pub mod sums;
+
 ghost use mathlib.Core.Path.{_≡_};
 ghost use mathlib.Core.Bool.{true};
 ghost use lib.ListN.{length};
@@ -10,7 +16,7 @@ ghost use Rattle.shading.specs.Shade.{shadeBy, shadeOf};
 use lighting::Lighting;
 use refusals::Outcome;
 use refusals::Refusal;
-use shade_types::Frame;
+use surface::types::Frame;
 
 // The eight channels, 0 to 255, in the printed order, from the frame and the shadow.
 pub fn shade_by(
@@ -24,9 +30,9 @@ pub fn shade_by(
     ensures { λ r. ⌜ r ≡ shadeBy (given (now (tables .entry)) (now (bytes .entry))) l frame texel ⌝ }
 {
     let lights = l.lights;
-    let lookups = lighting_parts::lookups_of(l);
-    let settings = lighting_parts::settings_of(l, texel);
-    let sums = light_sums::sum_lights(
+    let lookups = parts::lookups_of(l);
+    let settings = parts::settings_of(l, texel);
+    let sums = sums::sum_lights(
         tables,
         bytes,
         lookups,
@@ -35,7 +41,7 @@ pub fn shade_by(
         lights,
         l.light_count,
     );
-    lighting_parts::finished(l, sums, texel)
+    parts::finished(l, sums, texel)
 }
 
 // From the quaternion, the view and the texels.
@@ -50,14 +56,14 @@ fn shaded(
     requires { ⌜ (length (given (now tables) (now bytes)) ≡ 12288) × (inRange l ≡ true) ⌝ }
     ensures { λ r. ⌜ r ≡ shadeOf l (given (now (tables .entry)) (now (bytes .entry))) quaternion view texels ⌝ }
 {
-    let frame = lighting_parts::frame_of(l, quaternion, view, texels);
-    let shadow = lighting_parts::shadow_of(l, texels);
+    let frame = parts::frame_of(l, quaternion, view, texels);
+    let shadow = parts::shadow_of(l, texels);
     shade_by(tables, bytes, l, frame, shadow)
 }
 
 // The eight channels of a fragment, 0 to 255, in the printed order, or a refusal and the answer as it
 // was.
-pub fn shade(
+fn shade(
     lighting: Lighting,
     tables: &[u32],
     quaternion: [f32; 4],
@@ -73,7 +79,7 @@ pub fn shade(
     if answer.len() != 8 {
         return Outcome::Refused(Refusal::WrongFragment);
     }
-    if block_accepted::acceptable(lighting) {
+    if packing::accepted::acceptable(lighting) {
         let none = [0u8; 0];
         answer_words::put(
             answer,

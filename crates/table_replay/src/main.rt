@@ -61,9 +61,9 @@ fn sum_of(words: &[u32]) -> u32 {
 // A restore of the first `count` words.
 fn restore_first(entries: &mut [u32], generation: u64, saved: &[u32], count: usize) -> Written {
     if count <= saved.len() {
-        return table_copies::restore(entries, generation, &saved[..count]);
+        return tables::copies::restore(entries, generation, &saved[..count]);
     }
-    table_copies::restore(entries, generation, saved)
+    tables::copies::restore(entries, generation, saved)
 }
 
 // A restore of `count` words that follow from a seed.
@@ -82,7 +82,7 @@ fn call(
     b: u32,
 ) -> Written {
     if kind == WRITE {
-        return register_write::write(file, entries, generation, a, b);
+        return tables::register_write::write(file, entries, generation, a, b);
     }
     restore(entries, generation, a, b)
 }

@@ -1,8 +1,13 @@
-// What a write or a restore of the tables answers. The register write is `register_write`, the upload `table_upload`, restore and save `table_copies`, lookup `table_lookup`.
+// What a write or a restore of the tables answers. The register write is `register_write`, the upload `upload`, restore and save `copies`, lookup `lookup`.
+pub mod copies;
+pub mod lookup;
+pub mod register_write;
+mod upload;
+
 use refusals::Refusal;
 
 // The generation that cannot rise.
-pub const LAST_GENERATION: u64 = 0xFFFF_FFFF_FFFF_FFFF;
+pub(crate) const LAST_GENERATION: u64 = 0xFFFF_FFFF_FFFF_FFFF;
 
 // A refusal, or the generation afterwards.
 pub enum Written {

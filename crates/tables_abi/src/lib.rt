@@ -16,7 +16,7 @@ pub extern "C" fn tables_write(
 ) -> u32
     ensures { λ r. ⌜ wrote r (now (file .exit)) (now (entries .exit)) (now (generation .exit)) ≡ writeOf (now (file .entry)) (now (entries .entry)) (now (generation .entry)) register value ⌝ }
 {
-    match register_write::write(file, entries, *generation, register, value) {
+    match tables::register_write::write(file, entries, *generation, register, value) {
         Written::Done(next) => {
             *generation = next;
             0
@@ -29,7 +29,7 @@ pub extern "C" fn tables_write(
 pub extern "C" fn tables_restore(entries: &mut [u32], generation: &mut u64, saved: &[u32]) -> u32
     ensures { λ r. ⌜ restored r (now (entries .exit)) (now (generation .exit)) ≡ restoreOf (now (entries .entry)) (now (generation .entry)) (now (saved .entry)) ⌝ }
 {
-    match table_copies::restore(entries, *generation, saved) {
+    match tables::copies::restore(entries, *generation, saved) {
         Written::Done(next) => {
             *generation = next;
             0
@@ -42,12 +42,12 @@ pub extern "C" fn tables_restore(entries: &mut [u32], generation: &mut u64, save
 pub extern "C" fn tables_save(entries: &[u32], output: &mut [u32]) -> u32
     ensures { λ r. ⌜ savedAs r (now (output .exit)) ≡ saveOf (now (entries .entry)) (now (output .entry)) ⌝ }
 {
-    refusals::outcome_number(table_copies::save(entries, output))
+    refusals::outcome_number(tables::copies::save(entries, output))
 }
 
 #[no_mangle]
 pub extern "C" fn tables_lookup(entries: &[u32], table: u32, entry: u8, delta: f32) -> f32
     ensures { λ r. ⌜ r ≡ tableLookup (now (entries .entry)) table entry delta ⌝ }
 {
-    table_lookup::lookup(entries, table, entry, delta)
+    tables::lookup::lookup(entries, table, entry, delta)
 }

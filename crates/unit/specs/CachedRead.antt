@@ -9,8 +9,8 @@ use Rattle.refusals.specs.Lengths.{fileRefusal}
 use Rattle.decoding.specs.Decode.{decoded}
 use Rattle.unit.specs.declared.Cache.{Cache}
 use Rattle.unit.specs.declared.CachedRead.{CachedRead}
-use Rattle.registers_read.specs.RegistersRead.{keptWords}
-use Rattle.registers_read.specs.Comparing.{sameWords}
+use Rattle.decoding.specs.RegistersRead.{keptWords}
+use Rattle.decoding.specs.Comparing.{sameWords}
 
 -- the cache is not empty, and its words are the file's
 unfoldable pub current : List ℕ → Cache → Bool
@@ -24,23 +24,23 @@ readAnew f = record { filled = true; kept = keptWords f; decoded = decoded f }
 unfoldable pub refreshed : List ℕ → Cache → Cache
 refreshed f c = cond (current f c) c (readAnew f)
 
--- what a cached read gives: 0 or the refusal's number, and the cache afterwards, whose lighting is the read one
-pub record Cached : Type 0 where
+-- what a cached read gives, whatever kind of thing a cache is: 0 or the refusal's number, and the cache afterwards, whose lighting is the read one
+pub record Cached (C : Type 0) : Type 0 where
   pub number : ℕ
-  pub cache : Cache
+  pub cache : C
 
-abbrev pub cached : ℕ → Cache → Cached
+abbrev pub cached : {C : Type 0} → ℕ → C → Cached C
 cached k c = record { number = k; cache = c }
 
 -- refused, nothing changes
-unfoldable pub cachedReadIf : ℕ → List ℕ → Cache → Cached
+unfoldable pub cachedReadIf : ℕ → List ℕ → Cache → Cached Cache
 cachedReadIf zero f c = cached 0 (refreshed f c)
 cachedReadIf (suc k) f c = cached (suc k) c
 
 -- file, cache
-abbrev pub cachedRead : List ℕ → Cache → Cached
+abbrev pub cachedRead : List ℕ → Cache → Cached Cache
 cachedRead f c = cachedReadIf (fileRefusal (length f)) f c
 
 -- what the function's answer says in these terms
-abbrev pub cachedOf : CachedRead → Cached
+abbrev pub cachedOf : CachedRead → Cached Cache
 cachedOf r = cached (outcomeNumber (r .outcome)) (r .cache)

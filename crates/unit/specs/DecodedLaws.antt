@@ -4,7 +4,7 @@ use Prim.Native.Nat.{ℕ, _≤_}
 use native.Mathlib.Omega.{arith}
 use mathlib.Core.Path.{_≡_, refl, _∙_}
 use mathlib.Core.List.{List}
-use mathlib.Core.Bool.{Bool, true, false, cond, not, _||_}
+use mathlib.Core.Bool.{Bool, true, false, cond, not, _&&_, _||_}
 use lib.Dec.{T}
 use lib.ListN.{length, replicate, length-replicate}
 use lib.Ieee.{Float, binary32, fits, ofBits, toBits}
@@ -23,19 +23,19 @@ use Rattle.lighting.specs.declared.OptionalShadow.the-variants.{Unshadowed, Sha
 use Rattle.lighting.specs.declared.Light.{Light}
 use Rattle.lighting.specs.declared.Lighting.{Lighting}
 use Rattle.lighting.specs.declared.OptionalLighting.{OptionalLighting}
-use Rattle.lights.specs.Claims.{LightFits, DistanceFits}
-use Rattle.register_lighting.specs.Lighting.{lightingOf}
+use Rattle.decoding.specs.LightsClaims.{LightFits, DistanceFits}
+use Rattle.decoding.specs.Lighting.{lightingOf}
 use Rattle.lighting.specs.Blank.{off}
 use Rattle.decoding.specs.Decode.{lightingOn, decoded}
 use Rattle.decoding.specs.Claims.{IsScale, LookupLimits, OptionalLookupLimits, BumpLimits, ShadowLimits, Limits}
 use Rattle.decoding.specs.LimitLaws.{scale-each, scale-fits, lighting-limits}
 use Rattle.block.specs.Words.{noLight, lightAt, packed}
-use Rattle.block.specs.Formed.{words, every, zeros, allZero, scaleFormed}
+use Rattle.block.specs.Formed.{words, every, zeros, allZero, scaleFormed, wellFormed}
 use Rattle.block.specs.Reading.{blockReading}
 use Rattle.block.specs.Answers.{bumpUnit, shadowUnit, numbersFit, inRange, accepted, packedReading}
 use Rattle.block.specs.Acceptable.{lookupAcceptable, optionalLookupAcceptable, acceptable}
 use Rattle.block.specs.Claims.{Vector as BlockVector, DistanceHeld, LookupHeld, LightHeld, Held, BlankBeyond}
-use Rattle.block.specs.TestLaws.{_also_, every-of}
+use Rattle.block.specs.TestLaws.{_also_, both-second, or-second, every-of}
 use Rattle.block.specs.ListLaws.{length-packed}
 use Rattle.block.specs.PackedLaws.{packed-reads}
 use Rattle.unit.specs.HandOver.{packable}
@@ -152,6 +152,19 @@ decoded-packable f = go (lightingOn f)
 zero-block : allZero (words (replicate 328 0)) ≡ true
 unfolding allZero zeros every
 zero-block = refl
+
+-- the block of a lighting that is packed, or off, is off or well formed
+pub packed-formed : (d : OptionalLighting) → packable d ≡ true → (allZero (words (packedReading d)) || wellFormed (words (packedReading d))) ≡ true
+unfolding packable packedReading accepted
+packed-formed d h = go (d .on) h
+  where
+    block : Bool → List ℕ
+    block b = cond b (packed (d .lighting)) (replicate 328 0)
+
+    go : (b : Bool) → (not b || (inRange (d .lighting) && wellFormed (words (packed (d .lighting))))) ≡ true → (allZero (words (block b)) || wellFormed (words (block b))) ≡ true
+    go true e =
+        or-second (allZero (words (packed (d .lighting)))) (wellFormed (words (packed (d .lighting)))) (both-second (inRange (d .lighting)) _ e)
+    go false e = rw zero-block refl
 
 -- the block of a file's lighting reads as that lighting
 pub decoded-reads : (f : List ℕ) → blockReading (words (packedReading (decoded f))) ≡ decoded f

@@ -3,3 +3,7 @@ pub mod CachedRead
 pub mod HandOver
 pub mod DecodedLaws
 pub mod HandOverLaws
+pub mod Taking
+pub mod CacheWords
+pub mod Meaning
+pub mod MeaningLaws

@@ -1,9 +1,14 @@
 // A unit's cache, fresh or read anew, and what a cached read and a hand-over answer.
+mod cache_words;
+pub mod handing_over;
+mod reading;
+mod taking;
+
 use decoding::decode;
+use decoding::registers_read::kept_words;
 use lighting::OptionalLighting;
 use lighting::blank_lighting;
 use refusals::Outcome;
-use registers_read::kept_words;
 ghost use mathlib.Core.Path.{_≡_};
 ghost use Prim.Native.Nat.{_≤_};
 ghost use lib.ListN.{length};
@@ -48,7 +53,7 @@ pub fn fresh_cache() -> Cache
 }
 
 // The words that decoding takes, and their lighting.
-pub fn read_anew(file: &[u32]) -> Cache
+pub(crate) fn read_anew(file: &[u32]) -> Cache
     requires { ⌜ 474 ≤ length (now file) ⌝ }
     ensures { λ r. ⌜ r ≡ readAnew (now (file .entry)) ⌝ }
 {

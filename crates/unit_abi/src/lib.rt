@@ -30,7 +30,7 @@ pub extern "C" fn unit_hand_overs(
     };
     let mut left = pairs;
     while 0 < left {
-        state = hand_over::hand_over(
+        state = unit::handing_over::hand_over(
             file,
             tables,
             first,
@@ -39,7 +39,7 @@ pub extern "C" fn unit_hand_overs(
             copied,
             state.generation,
         );
-        state = hand_over::hand_over(
+        state = unit::handing_over::hand_over(
             other,
             tables,
             second,

@@ -1,4 +1,6 @@
 // Vectors of three floats. The cross product and a quaternion's turn are `rotation`.
+pub mod rotation;
+
 ghost use mathlib.Core.Path.{_≡_};
 ghost use Rattle.vectors.specs.Vectors.{plusOf, minusOf, timesOf, overOf, dotOf, normalizedOf};
 

@@ -2,9 +2,9 @@
 use native.Mathlib.Omega.{arith}
 use mathlib.Core.Path.{_≡_, sym, ap, _∙_}
 use Rattle.refusals.specs.Numbers.{outcomeNumber}
-use Rattle.writing.specs.Writing.{out, puts}
+use Rattle.printing.specs.Writing.{out, puts}
 use Rattle.capture_check.specs.Refusal.{captureWordsRefusal}
-use Rattle.capture_printed.specs.Printed.{printedIf}
+use Rattle.capture_calls.specs.Printed.{printedIf}
 use Rattle.capture.proofs.Whole.{refused-number, refused-small, refused-prints}
 use borrow.Author.Needs.{needs}
 use Rattle.capture.proofs.run_words.Statement.{statement}

@@ -4,8 +4,8 @@ use Prim.Native.Nat.{_≤_, _+_, _-_, _*_, _/_}
 use native.Mathlib.Omega.{arith}
 use mathlib.Core.Path.{_≡_, refl, _∙_}
 use lib.ListN.{length, drop}
-use Rattle.writing.specs.Writing.{puts}
-use Rattle.writing.specs.Writing as Writing
+use Rattle.printing.specs.Writing.{puts}
+use Rattle.printing.specs.Writing as Writing
 use Rattle.capture_lines.specs.Lines.{unlitShades, fragmentLines}
 use Rattle.capture_lines.specs.LinesLaws.{lines-all, lines-none, lines-turn}
 use borrow.Author.Needs.{needs}

@@ -5,7 +5,7 @@ use native.Mathlib.Omega.{arith}
 use mathlib.Core.Path.{_≡_, sym, ap, _∙_}
 use mathlib.Core.Bool.{true, false}
 use Rattle.sources.specs.Sources.{given}
-use Rattle.answer_bytes.specs.Bytes.{bytesOf}
+use Rattle.lighting_abi.specs.AnswerBytesBytes.{bytesOf}
 use Rattle.block.specs.Answers.{blockForm}
 use Rattle.block_reading.specs.Answer.{isLit, isPlain}
 use Rattle.block_reading.specs.AnswerLaws.{is-lit, is-plain}

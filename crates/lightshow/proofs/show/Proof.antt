@@ -2,7 +2,7 @@
 use native.Mathlib.Omega.{arith}
 use mathlib.Core.Path.{sym}
 use lib.Seq.{length-take-le}
-use Rattle.capture_printed.specs.AnswerLaws.{output-suffices}
+use Rattle.capture_calls.specs.AnswerLaws.{output-suffices}
 use borrow.Author.Needs.{needs}
 use Rattle.lightshow.proofs.show.Statement.{statement}
 use Rattle.lightshow.proofs.show.Tie as tie

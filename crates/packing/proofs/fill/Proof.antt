@@ -7,8 +7,8 @@ use borrow.Author.Tests.{ltb-true}
 use lib.ListN.{length}
 use Rattle.block.specs.Words.{lightAt, slotsWords}
 use Rattle.block.specs.PackedLaws.{range-number}
-use Rattle.block_rows.specs.Put.{putWords}
-use Rattle.block_rows.specs.PutLaws.{length-put}
+use Rattle.packing.specs.Put.{putWords}
+use Rattle.packing.specs.PutLaws.{length-put}
 use Rattle.packing.proofs.Parts.{none-put, slot-put, all-put}
 use Rattle.packing.proofs.fill.Statement.{statement}
 use Rattle.packing.proofs.fill.Tie as tie

@@ -4,8 +4,8 @@ use Prim.Native.Nat.{_≤_, _+_, _-_, _*_}
 use native.Mathlib.Omega.{arith}
 use mathlib.Core.Path.{_≡_, refl}
 use lib.ListN.{length, drop, length-set}
-use Rattle.writing.specs.Writing.{puts}
-use Rattle.writing.specs.Writing as Writing
+use Rattle.printing.specs.Writing.{puts}
+use Rattle.printing.specs.Writing as Writing
 use Rattle.printing.specs.Text.{line, Bytes}
 use Rattle.printing.specs.TextLaws.{line-turn, line-none}
 use borrow.Author.Needs.{needs}

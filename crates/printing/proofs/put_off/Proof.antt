@@ -1,7 +1,7 @@
 -- `printing::put_off` meets its contract: the four bytes are stored one after another. Assumes nothing.
 use native.Mathlib.Omega.{arith}
 use lib.ListN.{length-set}
-use Rattle.writing.specs.WritingLaws.{puts-four}
+use Rattle.printing.specs.WritingLaws.{puts-four}
 use borrow.Author.Needs.{needs}
 use Rattle.printing.proofs.put_off.Statement.{statement}
 use Rattle.printing.proofs.put_off.Tie as tie

@@ -4,10 +4,10 @@ use native.Mathlib.Omega.{arith}
 use mathlib.Core.Path.{_≡_, refl, sym, _∙_}
 use native.Mathlib.Nat.{add-zero}
 use lib.ListN.{length, drop, length-set}
-use Rattle.writing.specs.Writing.{puts}
-use Rattle.writing.specs.Writing as Writing
-use Rattle.writing.specs.WritingLaws.{puts-next}
-use Rattle.writing.specs.PieceLaws.{drop-none}
+use Rattle.printing.specs.Writing.{puts}
+use Rattle.printing.specs.Writing as Writing
+use Rattle.printing.specs.WritingLaws.{puts-next}
+use Rattle.printing.specs.PieceLaws.{drop-none}
 use borrow.Author.Needs.{needs}
 use Rattle.printing.proofs.put_text.Statement.{statement}
 use Rattle.printing.proofs.put_text.Tie as tie

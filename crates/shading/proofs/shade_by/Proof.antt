@@ -8,7 +8,7 @@ use Rattle.lighting.specs.declared.Lighting.{Lighting}
 use Rattle.block.specs.Words.{lightAt}
 use Rattle.block.specs.Answers.{inRange}
 use Rattle.block.specs.PackedLaws.{range-count, range-number}
-use Rattle.light_sums.specs.Numbered.{Numbered}
+use Rattle.shading.specs.Numbered.{Numbered}
 use borrow.Author.Needs.{needs}
 use Rattle.shading.proofs.shade_by.Statement.{statement}
 use Rattle.shading.proofs.shade_by.Tie as tie

@@ -11,6 +11,7 @@ use Rattle.unit_abi.specs.HandOvers.{next, handOvers, copied, copyOf}
 use borrow.Author.Needs.{needs}
 use Rattle.unit_abi.proofs.unit_hand_overs.Statement.{statement}
 use Rattle.unit_abi.proofs.unit_hand_overs.Tie as tie
+use Rattle.unit.specs.declared.Cache.{Cache}
 
 abbrev Inv-loop : tie.InvT-loop
 Inv-loop file other tables first second block₀ copied₀ age pairs state₀ left₀ block copied state left =
@@ -24,7 +25,7 @@ abbrev μ-loop : tie.MeasureT-loop
 
 module _ (f o t : List ℕ) (g k : ℕ) where
   -- a pair of hand-overs, from h by way of m to l
-  pair : (n : ℕ) (h m l : Handed) → 0 < n → m ≡ next f t g h → l ≡ next o t k m → handOvers f o t g k (n - 1) l ≡ handOvers f o t g k n h
+  pair : (n : ℕ) (h m l : Handed Cache) → 0 < n → m ≡ next f t g h → l ≡ next o t k m → handOvers f o t g k (n - 1) l ≡ handOvers f o t g k n h
   unfolding handOvers
   pair zero h m l p a b = absurd (omega arith)
   pair (suc n) h m l p a b =
@@ -32,7 +33,7 @@ module _ (f o t : List ℕ) (g k : ℕ) where
       rw (b, a, e) refl
 
   -- no pair is left
-  ended : (n : ℕ) (h : Handed) (r : ℕ) → n ≤ 0 → r ≡ h .number → copied r (h .block) (h .tables) (h .generation) ≡ copyOf (handOvers f o t g k n h)
+  ended : (n : ℕ) (h : Handed Cache) (r : ℕ) → n ≤ 0 → r ≡ h .number → copied r (h .block) (h .tables) (h .generation) ≡ copyOf (handOvers f o t g k n h)
   unfolding handOvers
   ended zero h r p e = rw e refl
   ended (suc n) h r p e = absurd (omega arith)

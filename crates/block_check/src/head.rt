@@ -1,0 +1,62 @@
+// The head of a block: its settings, its seven lookups, and its padding.
+use crate::options::settings_formed;
+use crate::zeros::are_zero;
+use block::scale_formed;
+use sources::word;
+ghost use mathlib.Core.Path.{_≡_};
+ghost use Prim.Native.Nat.{_+_, _≤_};
+ghost use lib.ListN.{length};
+ghost use Rattle.sources.specs.Sources.{given};
+ghost use Rattle.block.specs.Formed.{words, from as fromOf};
+ghost use Rattle.block_check.specs.Head.{lookupFormed, lookupsFormed, headFormed};
+
+// A lookup by each of its four words.
+fn present_formed(block: &[u32], bytes: &[u8], at: usize) -> bool
+    requires { ⌜ (length (given (now block) (now bytes)) ≡ 328) × (at + 4 ≤ 328) ⌝ }
+    ensures { λ r. ⌜ r ≡ lookupFormed (fromOf (words (given (now (block .entry)) (now (bytes .entry)))) at) ⌝ }
+{
+    let here = word(block, bytes, at);
+    let input = word(block, bytes, at + 1);
+    let absolute = word(block, bytes, at + 2);
+    let scale = word(block, bytes, at + 3);
+    (here < 2)
+        & (input < 8)
+        & (absolute < 2)
+        & scale_formed(scale)
+        & ((here == 1) | ((input == 0) & (absolute == 0) & (scale == 0)))
+}
+
+// The words of a missing lookup are all zero, and are not looked at one by one.
+fn lookup_formed(block: &[u32], bytes: &[u8], at: usize) -> bool
+    requires { ⌜ (length (given (now block) (now bytes)) ≡ 328) × (at + 4 ≤ 328) ⌝ }
+    ensures { λ r. ⌜ r ≡ lookupFormed (fromOf (words (given (now (block .entry)) (now (bytes .entry)))) at) ⌝ }
+{
+    if are_zero(block, bytes, at, 4) {
+        return true;
+    }
+    present_formed(block, bytes, at)
+}
+
+fn lookups_formed(block: &[u32], bytes: &[u8]) -> bool
+    requires { ⌜ length (given (now block) (now bytes)) ≡ 328 ⌝ }
+    ensures { λ r. ⌜ r ≡ lookupsFormed (words (given (now (block .entry)) (now (bytes .entry)))) 7 ⌝ }
+{
+    let mut k = 0;
+    while k < 7 {
+        if !lookup_formed(block, bytes, 8 + 4 * k) {
+            return false;
+        }
+        k += 1;
+    }
+    true
+}
+
+pub(crate) fn head_formed(block: &[u32], bytes: &[u8]) -> bool
+    requires { ⌜ length (given (now block) (now bytes)) ≡ 328 ⌝ }
+    ensures { λ r. ⌜ r ≡ headFormed (words (given (now (block .entry)) (now (bytes .entry)))) ⌝ }
+{
+    settings_formed(block, bytes)
+        & lookups_formed(block, bytes)
+        & (word(block, bytes, 32) == 1)
+        & (word(block, bytes, 39) == 0)
+}

@@ -1,0 +1,41 @@
+-- `slots::frame_of` meets its contract: the texel of the bump's unit is read alone, and the rest is the definition's, in its order. Assumes nothing.
+use Rattle.sources.specs.Sources.{given}
+use Rattle.block.specs.Answers.{bumpUnit}
+use Rattle.shading.specs.Parts.{lightingFrame}
+use Rattle.block_shading.proofs.slots.Texels.{texel}
+use borrow.Author.Needs.{needs}
+use Rattle.block_shading.proofs.slots.frame_of.Statement.{statement}
+use Rattle.block_shading.proofs.slots.frame_of.Tie as tie
+
+quaternion-of-requires : tie.Need-quaternion-of-requires
+quaternion-of-requires c κs = search needs
+
+view-of-requires : tie.Need-view-of-requires
+view-of-requires c κs = search needs
+
+bump-unit-requires : tie.Need-bump-unit-requires
+bump-unit-requires c κs = search needs
+
+texel-at-requires : tie.Need-texel-at-requires
+texel-at-requires c κs = let s = c .before .before .before .before .before in (rw (c .bump-unit .ensures) (s .pre .0), s .pre .1)
+
+frame-of-requires : tie.Need-frame-of-requires
+frame-of-requires c κs = search needs
+
+returns : tie.Need-returns
+unfolding lightingFrame
+returns c =
+    let s = c .before .before .before .before .before .before .before in
+    simp
+    (c .frame-of .ensures, c .before .texel-at .ensures, c .before .before .bump-unit .ensures, c .before .before .before .view-of .ensures, c .before .before .before .before .quaternion-of .ensures, texel (given (s .args .fragment .now) (s .args .bytes .now)) (bumpUnit (s .args .l .bump)) (s .pre .0))
+
+pub frame-of-spec : {M : Type 1} → statement M
+frame-of-spec =
+    tie.close
+    (tie.spec
+    quaternion-of-requires
+    view-of-requires
+    bump-unit-requires
+    texel-at-requires
+    frame-of-requires
+    returns)

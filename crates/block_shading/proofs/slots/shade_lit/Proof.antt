@@ -1,0 +1,62 @@
+-- `slots::shade_lit` meets its contract: each call is the definition's, in its order, and shading asks the head for nothing that the whole lighting
+-- has otherwise. Assumes nothing.
+use mathlib.Core.Path.{ap, _∙_}
+use Rattle.lighting.specs.declared.Lighting.{Lighting}
+use Rattle.sources.specs.Sources.{given}
+use Rattle.block.specs.Formed.{words}
+use Rattle.block_shading.specs.HeadLaws.{head-shades, head-bump, head-shadow, head-count}
+use Rattle.block_shading.specs.Fragment.{quaternionOf, viewOf, texelsOf}
+use borrow.Author.Needs.{needs}
+use Rattle.block_shading.proofs.slots.shade_lit.Statement.{statement}
+use Rattle.block_shading.proofs.slots.shade_lit.Tie as tie
+
+head-of-requires : tie.Need-head-of-requires
+head-of-requires c κs = search needs
+
+frame-of-requires : tie.Need-frame-of-requires
+frame-of-requires c κs =
+    let s = c .before .before .before .before .before .before .before in
+    let w = words (given (s .args .block .now) (s .args .block-bytes .now)) in
+    (rw (c .head-of .ensures) (head-bump w (s .pre .1 .0)), s .pre .0 .2)
+
+shadow-of-requires : tie.Need-shadow-of-requires
+shadow-of-requires c κs =
+    let s = c .before .before .before .before .before .before .before .before in
+    let w = words (given (s .args .block .now) (s .args .block-bytes .now)) in
+    (rw (c .before .head-of .ensures) (head-shadow w (s .pre .1 .0)), s .pre .0 .2)
+
+lookups-of-requires : tie.Need-lookups-of-requires
+lookups-of-requires c κs = search needs
+
+settings-of-requires : tie.Need-settings-of-requires
+settings-of-requires c κs = search needs
+
+sum-slots-requires : tie.Need-sum-slots-requires
+sum-slots-requires c κs =
+    let s = c .before .before .before .before .before .before .before .before .before .before .before in
+    let w = words (given (s .args .block .now) (s .args .block-bytes .now)) in
+    ((s .pre .0 .0, s .pre .0 .1), ((s .pre .1 .0, ap (λ (l : Lighting). l .«light_count») (c .before .before .before .before .head-of .ensures) ∙ head-count w), s .pre .1 .1))
+
+finished-requires : tie.Need-finished-requires
+finished-requires c κs = search needs
+
+returns : tie.Need-returns
+returns c =
+    let s = c .before .before .before .before .before .before .before .before .before .before .before .before .before in
+    let q = given (s .args .fragment .now) (s .args .fragment-bytes .now) in
+    simp
+    (c .finished .ensures, c .before .sum-slots .ensures, c .before .before .settings-of .ensures, c .before .before .before .lookups-of .ensures, c .before .before .before .before .shadow-of .ensures, c .before .before .before .before .before .frame-of .ensures, c .before .before .before .before .before .before .head-of .ensures)
+    (head-shades (words (given (s .args .block .now) (s .args .block-bytes .now))) (given (s .args .tables .now) (s .args .table-bytes .now)) (quaternionOf q) (viewOf q) (texelsOf q))
+
+pub shade-lit-spec : {M : Type 1} → statement M
+shade-lit-spec =
+    tie.close
+    (tie.spec
+    head-of-requires
+    frame-of-requires
+    shadow-of-requires
+    lookups-of-requires
+    settings-of-requires
+    sum-slots-requires
+    finished-requires
+    returns)

@@ -1,0 +1,50 @@
+// The lines of fragments that a lighting colours.
+use lighting::Lighting;
+use printing::put_line;
+ghost use mathlib.Core.Path.{_≡_};
+ghost use mathlib.Core.Bool.{true};
+ghost use Prim.Native.Nat.{_+_, _*_, _/_, _≤_};
+ghost use lib.ListN.{length};
+ghost use Rattle.block.specs.Answers.{inRange};
+ghost use Rattle.printing.specs.Writing.{out as outAt, puts};
+ghost use Rattle.capture_lines.specs.Lines.{litShades, shownLine, fragmentLines};
+
+// The line of a fragment of 23 words, by a lighting.
+fn print_lit(
+    lighting: Lighting,
+    tables: &[u32],
+    fragment: &[u32],
+    out: &mut [u8],
+    at: usize,
+) -> usize
+    requires { ⌜ inRange lighting ≡ true ⌝ }
+    requires { ⌜ (length (now tables) ≡ 12288) × (length (now fragment) ≡ 23) × (at + 32 ≤ length (now out)) ⌝ }
+    ensures { λ r. ⌜ (outAt (now (out .exit)) r ≡ puts (outAt (now (out .entry)) at) (shownLine (litShades lighting (now (tables .entry)) (now (fragment .entry))))) × (r ≤ at + 32) ⌝ }
+{
+    let mut k = [0u32; 8];
+    block_shading::shade_fragment(lighting, tables, fragment, &mut k);
+    put_line(out, at, k)
+}
+
+pub(crate) fn print_all_lit(
+    lighting: Lighting,
+    tables: &[u32],
+    fragments: &[u32],
+    out: &mut [u8],
+    at: usize,
+) -> usize
+    requires { ⌜ inRange lighting ≡ true ⌝ }
+    requires { ⌜ (length (now tables) ≡ 12288) × (at + 32 * (length (now fragments) / 23) ≤ length (now out)) ⌝ }
+    ensures { λ r. ⌜ (outAt (now (out .exit)) r ≡ puts (outAt (now (out .entry)) at) (fragmentLines (litShades lighting (now (tables .entry))) (length (now (fragments .entry)) / 23) (now (fragments .entry)))) × (r ≤ at + 32 * (length (now (fragments .entry)) / 23)) ⌝ }
+{
+    let count = fragments.len() / 23;
+    let mut next = at;
+    let mut i = 0;
+    while i < count {
+        let from = 23 * i;
+        let to = from + 23;
+        next = print_lit(lighting, tables, &fragments[from..to], out, next);
+        i += 1;
+    }
+    next
+}

@@ -1,4 +1,0 @@
-pub mod Printed
-pub mod RefusalLaws
-pub mod PrintedLaws
-pub mod AnswerLaws

@@ -1,0 +1,54 @@
+-- `needs::any_spotlight` meets its contract. The loop's invariant: the flag says whether one of the lights passed has a spotlight. The measure is what is left of the count. Assumes nothing.
+use Prim.Native.Nat.{_≤_, _-_}
+use mathlib.Core.Path.{_≡_}
+use native.Mathlib.Omega.{arith}
+use borrow.Author.Needs.{needs}
+use lib.ListN.{take}
+use Rattle.decoding.specs.Needs.{anyLight, hasSpotlight}
+use Rattle.decoding.proofs.needs.Any.{any-next}
+use Rattle.decoding.proofs.needs.any_spotlight.Statement.{statement}
+use Rattle.decoding.proofs.needs.any_spotlight.Tie as tie
+
+abbrev Inv-loop : tie.InvT-loop
+Inv-loop count lights any₀ slot₀ any slot = (slot ≤ count) × (any ≡ anyLight hasSpotlight (take slot lights))
+
+abbrev μ-loop : tie.MeasureT-loop
+μ-loop count lights any₀ slot₀ any slot = count - slot
+
+loop-holds : tie.Need-loop-holds Inv-loop μ-loop
+loop-holds c = search needs
+
+mul-light : tie.Need-mul-light Inv-loop μ-loop
+mul-light c = search needs
+
+array-copy-out-light : tie.Need-array-copy-out-light Inv-loop μ-loop
+array-copy-out-light c = search needs
+
+add-slot : tie.Need-add-slot Inv-loop μ-loop
+add-slot c = search needs
+
+loop-less : tie.Need-loop-less Inv-loop μ-loop
+loop-less c = search needs
+
+loop-again : tie.Need-loop-again Inv-loop μ-loop
+loop-again c =
+    (search needs, rw (c .before .before .before .loop .inv .1) (any-next hasSpotlight (c .before .before .before .before .args .t1) (c .before .before .before .loop .slot) _ (search needs)))
+
+returns : tie.Need-returns Inv-loop μ-loop
+returns c =
+    let e : c .before .loop .slot ≡ c .before .before .args .count = omega arith in
+    rw e at (c .before .loop .inv .1)
+
+pub any-spotlight-spec : {M : Type 1} → statement M
+any-spotlight-spec =
+    tie.close
+    (tie.spec
+    Inv-loop
+    μ-loop
+    loop-holds
+    mul-light
+    array-copy-out-light
+    add-slot
+    loop-less
+    loop-again
+    returns)

@@ -1,0 +1,45 @@
+// The words of a light's block, and the vectors that they hold.
+use crate::registers::register;
+use fields::color;
+use fields::fixed;
+use fields::short_floats::half;
+use lighting::LightNumber;
+ghost use mathlib.Core.Path.{_≡_};
+ghost use Prim.Native.Nat.{_<_};
+ghost use Rattle.decoding.specs.LightFields.{lightRegister, lightColour, positionOf, spotOf};
+
+// The first word of light 0's block.
+const REG_LIGHTS: usize = 0x140;
+
+// The word at an offset in a light's block.
+pub(crate) fn light_register(file: &[u32], number: LightNumber, offset: usize) -> u32
+    requires { ⌜ (number .0 < 8) × (offset < 16) ⌝ }
+    ensures { λ r. ⌜ r ≡ lightRegister (now (file .entry)) number offset ⌝ }
+{
+    register(file, REG_LIGHTS + number.0 * 0x10 + offset)
+}
+
+pub(crate) fn light_color(file: &[u32], number: LightNumber, offset: usize) -> [f32; 3]
+    requires { ⌜ (number .0 < 8) × (offset < 16) ⌝ }
+    ensures { λ r. ⌜ r ≡ lightColour (now (file .entry)) number offset ⌝ }
+{
+    color(light_register(file, number, offset))
+}
+
+pub(crate) fn position(file: &[u32], number: LightNumber) -> [f32; 3]
+    requires { ⌜ number .0 < 8 ⌝ }
+    ensures { λ r. ⌜ r ≡ positionOf (now (file .entry)) number ⌝ }
+{
+    let first = light_register(file, number, 4);
+    let second = light_register(file, number, 5);
+    [half(first), half(first >> 16), half(second)]
+}
+
+pub(crate) fn spot(file: &[u32], number: LightNumber) -> [f32; 3]
+    requires { ⌜ number .0 < 8 ⌝ }
+    ensures { λ r. ⌜ r ≡ spotOf (now (file .entry)) number ⌝ }
+{
+    let first = light_register(file, number, 6);
+    let second = light_register(file, number, 7);
+    [fixed(first), fixed(first >> 16), fixed(second)]
+}

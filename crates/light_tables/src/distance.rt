@@ -1,0 +1,33 @@
+// Where a light's distance is read.
+ghost use mathlib.Core.Path.{_≡_};
+ghost use Rattle.light_tables.specs.Distance.{distancePlace, distanceReadingBy};
+use crate::places::table_for;
+use binary32::Place;
+use lighting::Distance;
+use lighting::Light;
+use surface::types::Reading;
+
+fn distance_place(bias: f32, scale: f32, away: f32) -> Place
+    ensures { λ r. ⌜ r ≡ distancePlace bias scale away ⌝ }
+{
+    binary32::places::unsigned_place(binary32::order::clamp(scale * away + bias, 0.0, 1.0))
+}
+
+// Of a light that is so far away.
+pub fn distance_reading(light: Light, away: f32) -> Reading
+    ensures { λ r. ⌜ r ≡ distanceReadingBy (light .distance) (light .number) away ⌝ }
+{
+    let distance = light.distance;
+    let number = light.number;
+    match distance {
+        Distance::Without => Reading::Unread,
+        Distance::Scaled(bias, scale) => {
+            let place = distance_place(bias, scale, away);
+            Reading::At(
+                table_for(decoding::configuration::DISTANCE, number),
+                place.entry,
+                place.delta,
+            )
+        }
+    }
+}

@@ -1,4 +1,0 @@
-pub mod Lights
-pub mod Claims
-pub mod LightLaws
-pub mod SameLaws

@@ -1,0 +1,46 @@
+-- `light_words::put_places` meets its contract: its three rows, one after another, are the definition's. Assumes nothing.
+use borrow.Author.Needs.{needs}
+use mathlib.Core.Path.{refl}
+use Rattle.block.specs.Words.{vectorWords}
+use Rattle.packing.specs.Parts.{placesWords}
+use Rattle.packing.specs.PutLaws.{after}
+use Rattle.packing.proofs.light_words.put_places.Statement.{statement}
+use Rattle.packing.proofs.light_words.put_places.Tie as tie
+
+put-vector-requires : tie.Need-put-vector-requires
+put-vector-requires c κs = search needs
+
+add-put-vector : tie.Need-add-put-vector
+add-put-vector c = search needs
+
+put-vector-requires-2 : tie.Need-put-vector-requires-2
+put-vector-requires-2 c κs = search needs
+
+add-put-vector-2 : tie.Need-add-put-vector-2
+add-put-vector-2 c = search needs
+
+put-vector-requires-3 : tie.Need-put-vector-requires-3
+put-vector-requires-3 c κs = search needs
+
+same-length : tie.Need-same-length
+same-length c = search needs
+
+returns : tie.Need-returns
+unfolding placesWords vectorWords
+returns c = let at = c .before .before .before .before .before .before .before .before .before .before .before .before .before .before .before .before .args .at in
+    let e1 = c .before .before .before .before .before .before .before .before .before .before .put-vector .ensures in
+    let e2 = c .before .before .before .before .before .before .put-vector2 .ensures in
+    let e3 = c .before .before .put-vector3 .ensures in
+    after _ _ _ at 8 _ _ refl (after _ _ _ at 4 _ _ refl e1 e2) e3
+
+pub put-places-spec : {M : Type 1} → statement M
+put-places-spec =
+    tie.close
+    (tie.spec
+    put-vector-requires
+    add-put-vector
+    put-vector-requires-2
+    add-put-vector-2
+    put-vector-requires-3
+    same-length
+    returns)

@@ -1,3 +1,0 @@
-pub mod Toward
-pub mod Way
-pub mod AwayLaws

@@ -1,3 +1,0 @@
-pub mod Lookups
-pub mod ReadingsLaws
-pub mod Step

@@ -1,0 +1,98 @@
+// What shading takes of a lighting: the lookups, the settings of the sums, the frame and the shadow from the texels, and the end.
+ghost use mathlib.Core.Path.{_≡_};
+ghost use mathlib.Core.Bool.{true};
+ghost use Prim.Native.Nat.{_≤_};
+ghost use Rattle.block.specs.Answers.{inRange};
+ghost use Rattle.shading.specs.Parts.{lightingLookups, lightingSettings, lightingFrame, lightingShadow, texelOf, finishedOf};
+use crate::channels;
+use lighting::Lighting;
+use surface::types::Frame;
+use surface::types::Lookups;
+use surface::types::Settings;
+use surface::types::Sums;
+
+pub fn lookups_of(l: Lighting) -> Lookups
+    ensures { λ r. ⌜ r ≡ lightingLookups l ⌝ }
+{
+    let distribution0 = l.distribution0;
+    let distribution1 = l.distribution1;
+    let fresnel = l.fresnel;
+    let reflect_red = l.reflect_red;
+    let reflect_green = l.reflect_green;
+    let reflect_blue = l.reflect_blue;
+    let spotlight = l.spotlight;
+    Lookups {
+        config: l.config,
+        needs_half: l.needs_half,
+        distribution0,
+        distribution1,
+        fresnel,
+        reflect_red,
+        reflect_green,
+        reflect_blue,
+        spotlight,
+    }
+}
+
+pub fn settings_of(l: Lighting, texel: [f32; 4]) -> Settings
+    ensures { λ r. ⌜ r ≡ lightingSettings l texel ⌝ }
+{
+    let shadow = l.shadow;
+    let fresnel = l.fresnel;
+    let on = light_steps::values::present(fresnel);
+    Settings {
+        clamp_highlights: l.clamp_highlights,
+        shadow_primary: surface::shadow::primary_of(shadow),
+        shadow_secondary: surface::shadow::secondary_of(shadow),
+        shadow: texel,
+        fresnel_primary: flags::both(on, l.fresnel_primary),
+        fresnel_secondary: flags::both(on, l.fresnel_secondary),
+    }
+}
+
+fn texel_of(texels: [[f32; 4]; 4], unit: usize) -> [f32; 4]
+    requires { ⌜ unit ≤ 3 ⌝ }
+    ensures { λ r. ⌜ r ≡ texelOf texels unit ⌝ }
+{
+    texels[unit]
+}
+
+pub(crate) fn frame_of(
+    l: Lighting,
+    quaternion: [f32; 4],
+    view: [f32; 3],
+    texels: [[f32; 4]; 4],
+) -> Frame
+    requires { ⌜ inRange l ≡ true ⌝ }
+    ensures { λ r. ⌜ r ≡ lightingFrame l quaternion view texels ⌝ }
+{
+    let bump = l.bump;
+    let texel = texel_of(texels, block::bump_unit(bump));
+    surface::frame_of(bump, texel, l.config, l.needs_view, quaternion, view)
+}
+
+pub(crate) fn shadow_of(l: Lighting, texels: [[f32; 4]; 4]) -> [f32; 4]
+    requires { ⌜ inRange l ≡ true ⌝ }
+    ensures { λ r. ⌜ r ≡ lightingShadow l texels ⌝ }
+{
+    let shadow = l.shadow;
+    let texel = texel_of(texels, block::shadow_unit(shadow));
+    surface::shadow::shadow_texel(shadow, texel)
+}
+
+// The channels from the sums.
+pub fn finished(l: Lighting, sums: Sums, texel: [f32; 4]) -> [u32; 8]
+    ensures { λ r. ⌜ r ≡ finishedOf l sums texel ⌝ }
+{
+    let shadow = l.shadow;
+    let ambient = l.global_ambient;
+    let alpha = surface::shadow::alpha_of(shadow);
+    channels::finish(
+        sums,
+        alpha,
+        l.fresnel_primary,
+        l.fresnel_secondary,
+        texel,
+        ambient,
+    )
+}

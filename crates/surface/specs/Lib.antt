@@ -1,0 +1,4 @@
+pub mod Surface
+pub mod Shadow
+pub mod Bump
+pub mod Facing

@@ -1,0 +1,34 @@
+// How much a surface faces a light, and what follows from that: the highlights and the geometric factor.
+ghost use mathlib.Core.Path.{_≡_};
+ghost use Rattle.surface.specs.Facing.{facingOf, highlightsOf, factorBy};
+
+pub fn facing_of(both: bool, x: f32) -> f32
+    ensures { λ r. ⌜ r ≡ facingOf both x ⌝ }
+{
+    if both {
+        binary32::order::magnitude(x)
+    } else {
+        binary32::order::positive(x)
+    }
+}
+
+pub fn highlights_of(clamp: bool, facing: f32) -> f32
+    ensures { λ r. ⌜ r ≡ highlightsOf clamp facing ⌝ }
+{
+    if clamp {
+        if facing == 0.0 { 0.0 } else { 1.0 }
+    } else {
+        1.0
+    }
+}
+
+// The geometric factor, from the dot of the half vector with itself.
+pub fn factor_by(facing: f32, length: f32) -> f32
+    ensures { λ r. ⌜ r ≡ factorBy facing length ⌝ }
+{
+    if length == 0.0 {
+        0.0
+    } else {
+        binary32::order::at_most_one(facing / length)
+    }
+}

@@ -1,0 +1,72 @@
+// What every light sees of a fragment: the normal and the tangent, turned by the quaternion, and the view.
+mod bump;
+pub mod facing;
+pub mod shadow;
+pub mod types;
+
+ghost use mathlib.Core.Path.{_≡_};
+ghost use Rattle.surface.specs.Surface.{lengthOf, unitQuaternion, tangentOf, unitIf, frameOf};
+use crate::types::Frame;
+use lighting::Bump;
+
+fn length(q: [f32; 4]) -> f32
+    ensures { λ r. ⌜ r ≡ lengthOf q ⌝ }
+{
+    root::root(q[0] * q[0] + q[1] * q[1] + q[2] * q[2] + q[3] * q[3])
+}
+
+fn unit_quaternion(q: [f32; 4]) -> [f32; 4]
+    ensures { λ r. ⌜ r ≡ unitQuaternion q ⌝ }
+{
+    let k = length(q);
+    if k > 0.0 {
+        [q[0] / k, q[1] / k, q[2] / k, q[3] / k]
+    } else {
+        [0.0, 0.0, 0.0, 1.0]
+    }
+}
+
+// Only configuration 8 has a table that reads the tangent.
+fn tangent(config: u32, quaternion: [f32; 4], surface: [f32; 3]) -> [f32; 3]
+    ensures { λ r. ⌜ r ≡ tangentOf config quaternion surface ⌝ }
+{
+    if config == 8 {
+        vectors::rotation::rotate(quaternion, surface)
+    } else {
+        surface
+    }
+}
+
+// A vector that nothing reads is left at zero.
+pub fn unit_if(needed: bool, v: [f32; 3]) -> [f32; 3]
+    ensures { λ r. ⌜ r ≡ unitIf needed v ⌝ }
+{
+    if needed {
+        vectors::normalized(v)
+    } else {
+        [0.0, 0.0, 0.0]
+    }
+}
+
+// From the texel of the bump's unit.
+pub fn frame_of(
+    bump: Bump,
+    texel: [f32; 4],
+    config: u32,
+    needed: bool,
+    quaternion: [f32; 4],
+    view: [f32; 3],
+) -> Frame
+    ensures { λ r. ⌜ r ≡ frameOf bump texel config needed quaternion view ⌝ }
+{
+    let unit = unit_quaternion(quaternion);
+    let normal = vectors::rotation::rotate(unit, bump::surface_normal(bump, texel));
+    let tangent = tangent(config, unit, bump::surface_tangent(bump, texel));
+    let norm_view = unit_if(needed, view);
+    Frame {
+        normal,
+        tangent,
+        view,
+        norm_view,
+    }
+}

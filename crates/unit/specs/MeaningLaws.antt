@@ -1,0 +1,247 @@
+-- A call on lent words is the call on the cache that they mean: a read anew keeps words that mean what document 01's keeps, and the block of a
+-- cache is the one that packing the cache's lighting gives. Assumes nothing.
+use Prim.Native.Nat.{ℕ, zero, suc, _-_, _≤_}
+use native.Mathlib.Omega.{arith}
+use mathlib.Core.Path.{_≡_, refl, ap, _∙_}
+use mathlib.Core.List.{List}
+use mathlib.Core.Bool.{Bool, true, false, cond, _||_}
+use lib.ListN.{length, length-append, length-take, length-drop}
+use lib.Seq.{take-at, drop-at}
+use lib.Dec.{leb, eqb}
+use borrow.Author.Tests.{leb-true, le-leb, ne-eqb}
+use Rattle.refusals.specs.Lengths.{fileRefusal, _else_}
+use Rattle.tables.specs.RefusalLaws.{passed, else-left}
+use Rattle.lighting.specs.Blank.{blankLighting}
+use Rattle.decoding.specs.RegistersRead.{keptWords}
+use Rattle.decoding.specs.Decode.{decoded}
+use Rattle.block.specs.Formed.{words, allZero, zeros, every, wellFormed}
+use Rattle.block.specs.Reading.{on, blockReading}
+use Rattle.block.specs.Answers.{bumpUnit, shadowUnit, inRange, accepted, packedReading}
+use Rattle.block.specs.Claims.{WordsHeld}
+use Rattle.block.specs.ReadLaws.{read-packs, read-accepted}
+use Rattle.unit.specs.declared.Cache.{Cache}
+use Rattle.unit.specs.Fresh.{freshCache}
+use Rattle.unit.specs.CachedRead.{cached, current, readAnew, refreshed, cachedReadIf}
+use Rattle.unit.specs.HandOver.{handed, handOverRefusal, packable, taken, handOverRead, handOverIf, handOver}
+use Rattle.unit.specs.HandOverLaws.{hand-over-lengths}
+use Rattle.unit.specs.DecodedLaws.{decoded-packable, decoded-reads, packed-formed, packed-length}
+use Rattle.unit.specs.CacheWords.{flagOf, keptOf, blockOf, emptyWords, cacheRefusal, formed, currentWords, anewWords, refreshedWords, cachedWordsRead, cachedWordsIf, cachedReadWords, takenWords, handOverWordsRead, handOverWordsIf, handOverWords}
+use Rattle.unit.specs.Meaning.{readingOf, cacheOf, cachedAs, handedAs, Lendable, HandsOverAsMeant, ReadsAsMeant}
+
+-- a block that, if it is off or well formed, is packed from its reading
+abbrev pub PacksBack : List ℕ → Type 0
+PacksBack b =
+    formed b ≡ true → (packable (blockReading (words b)) ≡ true) × (packedReading (blockReading (words b)) ≡ b)
+
+-- words of 32 bits are
+pub lent-packs : (b : List ℕ) → length b ≡ 328 → WordsHeld (words b) → PacksBack b
+unfolding formed packable blockReading
+lent-packs b n held h = (go (allZero (words b)) refl h, read-packs b n held h)
+  where
+    go : (z : Bool) → allZero (words b) ≡ z → (z || wellFormed (words b)) ≡ true → packable (blockReading (words b)) ≡ true
+    go true e k = rw e refl
+    go false e k = rw (e, read-accepted b n held k) refl
+
+-- and so is the block of a file's lighting
+decoded-formed : (f : List ℕ) → formed (packedReading (decoded f)) ≡ true
+unfolding formed
+decoded-formed f = packed-formed (decoded f) (decoded-packable f)
+
+decoded-packs : (f : List ℕ) → PacksBack (packedReading (decoded f))
+decoded-packs f h = rw (decoded-reads f) (decoded-packable f, refl)
+
+decoded-reading : (f : List ℕ) → readingOf (packedReading (decoded f)) ≡ decoded f
+unfolding readingOf
+decoded-reading f = rw (decoded-formed f) (decoded-reads f)
+
+-- `pack` refuses a lighting with no light
+none-refused : packable (on blankLighting) ≡ false
+unfolding packable accepted inRange bumpUnit shadowUnit blankLighting
+none-refused = refl
+
+-- 7 is met on the words where it is met on their meaning, and the block handed over is the one that is kept
+module _ (b : List ℕ) (back : PacksBack b) where
+  packable-meant : packable (readingOf b) ≡ formed b
+  unfolding readingOf
+  packable-meant = go (formed b) refl
+    where
+      go : (x : Bool) → formed b ≡ x → packable (cond x (blockReading (words b)) (on blankLighting)) ≡ x
+      go true e = back e .0
+      go false e = none-refused
+
+  packed-meant : formed b ≡ true → packedReading (readingOf b) ≡ b
+  unfolding readingOf
+  packed-meant e = rw e (back e .1)
+
+-- what a read anew keeps
+module _ (f : List ℕ) (long : 474 ≤ length f) where
+  kept-long : length (keptWords f) ≡ 139
+  unfolding keptWords
+  kept-long = simp (length-append, length-take, length-drop) (omega arith)
+
+  anew-kept : keptOf (anewWords f) ≡ keptWords f
+  unfolding anewWords
+  anew-kept = take-at (keptWords f) (packedReading (decoded f)) 139 kept-long
+
+  anew-block : blockOf (anewWords f) ≡ packedReading (decoded f)
+  unfolding anewWords
+  anew-block = drop-at (keptWords f) (packedReading (decoded f)) 139 kept-long
+
+  anew-long : length (anewWords f) ≡ 468
+  unfolding anewWords
+  anew-long =
+      ap (λ (n : ℕ). suc n) (length-append (keptWords f) (packedReading (decoded f)))
+      ∙ rw (kept-long, packed-length (decoded f)) refl
+
+  anew-flag : flagOf (anewWords f) ≡ 1
+  unfolding anewWords
+  anew-flag = refl
+
+  anew-means : cacheOf (anewWords f) ≡ readAnew f
+  unfolding cacheOf readAnew
+  anew-means = rw (anew-flag, anew-kept, anew-block, decoded-reading f) refl
+
+-- what the calls ask of a cache, and keep
+pub record Kept (c : List ℕ) : Type 0 where
+  pub long : length c ≡ 468
+  pub back : PacksBack (blockOf c)
+
+pub lendable-kept : (c : List ℕ) → Lendable c → Kept c
+lendable-kept c l =
+    record { long = l .long; back = lent-packs (blockOf c) (length-drop 140 c ∙ ap (λ (n : ℕ). n - 140) (l .long)) (l .held) }
+
+pub anew-keeps : (f : List ℕ) → 474 ≤ length f → Kept (anewWords f)
+anew-keeps f long = record { long = anew-long f long; back = rw (anew-block f long) (decoded-packs f) }
+
+anew-formed : (f : List ℕ) → 474 ≤ length f → formed (blockOf (anewWords f)) ≡ true
+anew-formed f long = rw (anew-block f long) (decoded-formed f)
+
+-- a read that is not refused
+module _ (f : List ℕ) (long : 474 ≤ length f) (c : List ℕ) where
+  refreshed-means : cacheOf (refreshedWords f c) ≡ refreshed f (cacheOf c)
+  unfolding refreshedWords currentWords refreshed current cacheOf
+  refreshed-means = go (currentWords f c)
+    where
+      go : (x : Bool) → cacheOf (cond x c (anewWords f)) ≡ cond x (cacheOf c) (readAnew f)
+      go true = refl
+      go false = anew-means f long
+
+  -- it leaves the cache that it got, or one read anew
+  refreshed-leaves : (P : List ℕ → Type 0) → P c → P (anewWords f) → P (refreshedWords f c)
+  unfolding refreshedWords
+  refreshed-leaves P p q = go (currentWords f c)
+    where
+      go : (x : Bool) → P (cond x c (anewWords f))
+      go true = p
+      go false = q
+
+-- past the refusals by length, n being what the read leaves
+module _ (n : List ℕ) (k : Kept n) (t : List ℕ) (g : ℕ) (c b ct : List ℕ) (cg : ℕ) where
+  takes-meant : formed (blockOf n) ≡ true → handedAs cacheOf (takenWords n t g ct cg) ≡ taken (cacheOf n) t g ct cg
+  unfolding takenWords taken cacheOf
+  takes-meant e = rw (packed-meant (blockOf n) (k .back) e) (go (eqb g cg))
+    where
+      go : (x : Bool) → handedAs cacheOf (cond x (handed 0 n (blockOf n) ct cg) (handed 0 n (blockOf n) t g)) ≡ cond x (handed 0 (cacheOf n) (blockOf n) ct cg) (handed 0 (cacheOf n) (blockOf n) t g)
+      go true = refl
+      go false = refl
+
+  read-meant : handedAs cacheOf (handOverWordsRead n t g c b ct cg) ≡ handOverRead (cacheOf n) t g (cacheOf c) b ct cg
+  unfolding handOverWordsRead handOverRead cacheOf
+  read-meant = rw (packable-meant (blockOf n) (k .back)) (go (formed (blockOf n)) refl)
+    where
+      go : (x : Bool) → formed (blockOf n) ≡ x → handedAs cacheOf (cond x (takenWords n t g ct cg) (handed 7 c b ct cg)) ≡ cond x (taken (cacheOf n) t g ct cg) (handed 7 (cacheOf c) b ct cg)
+      go true e = takes-meant e
+      go false e = refl
+
+not-refused : (c : List ℕ) → length c ≡ 468 → cacheRefusal (length c) ≡ 0
+unfolding cacheRefusal
+not-refused c e = rw e refl
+
+module _ (f t : List ℕ) (g : ℕ) (c b ct : List ℕ) (cg : ℕ) where
+  refusal : ℕ
+  refusal = handOverRefusal (length f) (length t) (length ct) (length b)
+
+  pub hand-over-means : Kept c → handedAs cacheOf (handOverWords f t g c b ct cg) ≡ handOver f t g (cacheOf c) b ct cg
+  unfolding handOverWordsIf handOverIf refusal
+  hand-over-means k = rw (not-refused c (k .long)) (go refusal refl)
+    where
+      go : (q : ℕ) → refusal ≡ q → handedAs cacheOf (handOverWordsIf (q else 0) f t g c b ct cg) ≡ handOverIf q f t g (cacheOf c) b ct cg
+      go zero e =
+          let long : 474 ≤ length f = hand-over-lengths (length f) (length t) (length ct) (length b) e .0 in
+          rw (← (refreshed-means f long c))
+          (read-meant (refreshedWords f c) (refreshed-leaves f long c Kept k (anew-keeps f long)) t g c b ct cg)
+      go (suc q) e = refl
+
+  -- it leaves the cache that it got, or one read anew
+  pub hand-over-leaves : (P : List ℕ → Type 0) → P c → (474 ≤ length f → P (anewWords f)) → P (handOverWords f t g c b ct cg .cache)
+  unfolding handOverWordsIf handOverWordsRead takenWords refusal
+  hand-over-leaves P p q = go (refusal else cacheRefusal (length c)) refl
+    where
+      copied : (n : List ℕ) → P n → (x y : Bool) → P (cond x (cond y (handed 0 n (blockOf n) ct cg) (handed 0 n (blockOf n) t g)) (handed 7 c b ct cg) .cache)
+      copied n h true true = h
+      copied n h true false = h
+      copied n h false y = p
+
+      go : (r : ℕ) → refusal else cacheRefusal (length c) ≡ r → P (handOverWordsIf r f t g c b ct cg .cache)
+      go zero e =
+          let long : 474 ≤ length f = hand-over-lengths (length f) (length t) (length ct) (length b) (else-left refusal _ e) .0 in
+          copied (refreshedWords f c) (refreshed-leaves f long c P p (q long)) (formed (blockOf (refreshedWords f c))) (eqb g cg)
+      go (suc r) e = p
+
+pub hands-over-as-meant : HandsOverAsMeant
+hands-over-as-meant f t g c b ct cg l = hand-over-means f t g c b ct cg (lendable-kept c l)
+
+-- a file past its refusal
+long-file : (n : ℕ) → fileRefusal n ≡ 0 → 474 ≤ n
+unfolding fileRefusal
+long-file n e = leb-true 474 n (passed (leb 474 n) 0 e)
+
+pub reads-as-meant : ReadsAsMeant
+unfolding cachedWordsIf cachedWordsRead cachedReadIf
+reads-as-meant f c n = rw (not-refused c n) (go (fileRefusal (length f)) refl)
+  where
+    go : (q : ℕ) → fileRefusal (length f) ≡ q → cachedAs cacheOf (cachedWordsIf (q else 0) f c) ≡ cachedReadIf q f (cacheOf c)
+    go zero e =
+        let long : 474 ≤ length f = long-file (length f) e in
+        ap (λ (w : Cache). cached 0 w) (refreshed-means f long c)
+    go (suc q) e = refl
+
+pub cached-read-leaves : (f c : List ℕ) (P : List ℕ → Type 0) → P c → (474 ≤ length f → P (anewWords f)) → P (cachedReadWords f c .cache)
+unfolding cachedWordsIf cachedWordsRead
+cached-read-leaves f c P p q = go (fileRefusal (length f) else cacheRefusal (length c)) refl
+  where
+    go : (r : ℕ) → fileRefusal (length f) else cacheRefusal (length c) ≡ r → P (cachedWordsIf r f c .cache)
+    go zero e =
+        let long : 474 ≤ length f = long-file (length f) (else-left (fileRefusal (length f)) _ e) in
+        refreshed-leaves f long c P p (q long)
+    go (suc r) e = p
+
+-- a cache of another length, past the refusals before it: 101, and nothing changes
+module _ (c : List ℕ) (other : length c ≡ 468 → ⊥) where
+  other-refused : cacheRefusal (length c) ≡ 101
+  unfolding cacheRefusal
+  other-refused = rw (ne-eqb (length c) 468 other) refl
+
+  pub other-read-refused : (f : List ℕ) → cachedReadWords f c ≡ cached (fileRefusal (length f) else 101) c
+  unfolding cachedWordsIf
+  other-read-refused f = rw other-refused (go (fileRefusal (length f)))
+    where
+      go : (q : ℕ) → cachedWordsIf (q else 101) f c ≡ cached (q else 101) c
+      go zero = refl
+      go (suc q) = refl
+
+  pub other-hand-over-refused : (f t : List ℕ) (g : ℕ) (b ct : List ℕ) (cg : ℕ) → handOverWords f t g c b ct cg ≡ handed (handOverRefusal (length f) (length t) (length ct) (length b) else 101) c b ct cg
+  unfolding handOverWordsIf
+  other-hand-over-refused f t g b ct cg = rw other-refused (go (handOverRefusal (length f) (length t) (length ct) (length b)))
+    where
+      go : (q : ℕ) → handOverWordsIf (q else 101) f t g c b ct cg ≡ handed (q else 101) c b ct cg
+      go zero = refl
+      go (suc q) = refl
+
+pub empty-means : cacheOf emptyWords ≡ freshCache
+unfolding cacheOf readingOf emptyWords freshCache formed blockReading allZero zeros every
+empty-means = refl
+
+pub empty-keeps : Kept emptyWords
+unfolding emptyWords formed blockReading allZero zeros every packedReading packable
+empty-keeps = record { long = refl; back = λ h. (refl, refl) }
