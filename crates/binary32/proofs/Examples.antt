@@ -4,12 +4,7 @@ use mathlib.Core.Path.{_≡_, refl}
 use mathlib.Core.Bool.{true, false}
 use lib.IntN.{pos}
 use lib.Ieee.{nan, inf, fin, round, sub, mul, div, lt, eq, isNan, ofInt, toUnsigned, toSigned, ofBits, toBits}
-use Rattle.binary32.specs.Words.{floatOf, wordOf}
-use Rattle.binary32.specs.Numbers.{float0, float1, float127, float128, float255, float256, minus128}
-use Rattle.binary32.specs.Order.{magnitudeOf, before, maxOf, minOf, clampOf}
-use Rattle.binary32.specs.Floor.{floorOf}
-use Rattle.binary32.specs.Places.{unsignedPlaceOf, signedPlaceOf}
-use Rattle.binary32.specs.Quantize.{quantizedOf, channelOf}
+use Rattle.binary32.specs.Binary32.{floatOf, wordOf, float0, float1, float127, float128, float255, float256, minus128, magnitudeOf, before, maxOf, minOf, clampOf, floorOf, unsignedPlaceOf, signedPlaceOf, quantizedOf, channelOf}
 
 -- ---- words
 nan-word : wordOf (floatOf 0xffc0_0001) ≡ 0x7fc0_0000

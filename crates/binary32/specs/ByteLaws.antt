@@ -16,8 +16,8 @@ use lib.Ieee.Exact.{HasValue}
 use lib.Ieee.Fits.{down-pos, round-is, and-l, and-r}
 use lib.Ieee.Nearest.{div-same}
 use lib.Ieee.Order.{round-mono}
-use Rattle.binary32.specs.Order.{minusSign}
-use Rattle.binary32.specs.Held.{underByte}
+use Rattle.binary32.specs.Binary32.{minusSign}
+use Rattle.binary32.specs.Steps.{underByte}
 use Rattle.binary32.specs.DigitLaws.{field, digits, cut, moved, bits-below}
 
 -- ---- the whole part, by the value

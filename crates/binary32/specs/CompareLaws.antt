@@ -10,6 +10,7 @@ use lib.IntN.{ℤ, pos}
 use lib.Dec.{T, eqb}
 use lib.Ieee.{Float, nan, inf, fin, binary32, up, down, below, level, lt, eq, fits, isNan}
 use lib.Ieee.Fits.{up-pos}
+use Rattle.flags.specs.FlagsLaws.{both-true}
 use Rattle.binary32.specs.ValueLaws.{same-value}
 
 -- ---- what a comparison that holds says
@@ -59,14 +60,6 @@ lt-asym (fin s m e) (inf true) h = absurd (true≢false (sym h))
 lt-asym (fin s m e) (inf false) h = refl
 lt-asym (fin s m e) (fin t n d) h = below-asym s (m * up e * down d) t (n * up d * down e) h
 
-first-true : (a b : Bool) → (a && b) ≡ true → a ≡ true
-first-true true b h = refl
-first-true false b h = h
-
-pub second-true : (a b : Bool) → (a && b) ≡ true → b ≡ true
-second-true true b h = h
-second-true false b h = absurd (true≢false (sym h))
-
 -- a product with a factor above 0 is 0 only by the other
 pub first-zero : (a b : ℕ) → 0 < b → a * b ≡ 0 → a ≡ 0
 first-zero a b h e = elim (eq-zero-or-pos a) [ inl z ↦ z | inr p ↦ absurd (lt-irrefl 0 (subst (λ (z : ℕ). 0 < z) e (mul-pos p h))) ]
@@ -90,7 +83,7 @@ zero-of s nan p h = absurd (true≢false (sym h))
 zero-of s (inf t) p h = absurd (true≢false (sym h))
 zero-of s (fin t n d) p h =
     let b = n * up d * 1 in
-    let is : 0 * 1 * down d ≡ b = eqb-true (0 * 1 * down d) b (first-true (eqb (0 * 1 * down d) b) (Bool·beq s t || eqb (0 * 1 * down d) 0) h) in
+    let is : 0 * 1 * down d ≡ b = eqb-true (0 * 1 * down d) b (both-true (eqb (0 * 1 * down d) b) (Bool·beq s t || eqb (0 * 1 * down d) 0) h .0) in
     let none : n ≡ 0 = first-zero n (up d) (up-pos d) (sym (mul-one (n * up d)) ∙ sym is ∙ zero-mul (down d)) in
     (t, ap (λ (z : ℕ). fin t z d) none ∙ zero-is t d (subst (λ (z : ℕ). T (fits binary32 (fin t z d))) none p))
 

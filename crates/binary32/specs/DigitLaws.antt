@@ -14,6 +14,7 @@ use lib.Ieee.{Float, nan, inf, fin, binary32, up, down, size, odd, ofFields, ofB
 use lib.Ieee.Digits.{size-le}
 use lib.Ieee.Exact.{HasValue, odd-sign}
 use lib.Ieee.Fits.{down-pos, kept-lt}
+use Rattle.flags.specs.FlagsLaws.{alike}
 
 -- the exponent's field and the digits, a leading one among them
 abbrev pub field : ℕ → ℕ
@@ -58,14 +59,9 @@ tiny-fields : (s : Bool) (t : ℕ) → HasValue (ofFields binary32 s 0 t) s (t *
 unfolding ofFields
 tiny-fields s t = odd-sign 24 s t 0 149
 
--- ---- two tests that imply each other
-pub same : (p q : Bool) → (p ≡ true → q ≡ true) → (q ≡ true → p ≡ true) → p ≡ q
-same true q f g = sym (f refl)
-same false true f g = g refl
-same false false f g = refl
-
+-- ---- tests of numbers
 pub ltb-scale : (p q h : ℕ) → 0 < h → ltb (p * h) (q * h) ≡ ltb p q
-ltb-scale p q h k = same (ltb (p * h) (q * h)) (ltb p q) (λ u. lt-ltb p q (lt-of-mul-lt-mul-right h (ltb-true (p * h) (q * h) u))) (λ u. lt-ltb (p * h) (q * h) (mul-lt-mul-of-pos-right (ltb-true p q u) k))
+ltb-scale p q h k = alike (ltb (p * h) (q * h)) (ltb p q) (λ u. lt-ltb p q (lt-of-mul-lt-mul-right h (ltb-true (p * h) (q * h) u))) (λ u. lt-ltb (p * h) (q * h) (mul-lt-mul-of-pos-right (ltb-true p q u) k))
 
 -- equal fractions p / d and a / c leave a rest alike
 rest-none : (p d a c : ℕ) → 0 < d → p * c ≡ a * d → p % d ≡ 0 → a % c ≡ 0
@@ -78,7 +74,7 @@ rest-none p d a c D e z =
 
 pub rest-same : (p d a c : ℕ) → 0 < d → 0 < c → p * c ≡ a * d → eqb (p % d) 0 ≡ eqb (a % c) 0
 rest-same p d a c D C e =
-    same (eqb (p % d) 0) (eqb (a % c) 0) (λ t. eq-eqb (a % c) 0 (rest-none p d a c D e (eqb-true (p % d) 0 t)))
+    alike (eqb (p % d) 0) (eqb (a % c) 0) (λ t. eq-eqb (a % c) 0 (rest-none p d a c D e (eqb-true (p % d) 0 t)))
     (λ t. eq-eqb (p % d) 0 (rest-none a c p d C (sym e) (eqb-true (a % c) 0 t)))
 
 -- The value in units of the smallest, 2 ^ -149, its whole part, and whether a rest is left: in a number that is not zero.
@@ -154,7 +150,7 @@ left-over b d = elim (either d) [
     no b e = omega arith
 
     split : (q r m : ℕ) → q + r ≡ m → eqb q m ≡ eqb r 0
-    split q r m e = same (eqb q m) (eqb r 0) (λ t. eq-eqb r 0 (left q r m e (eqb-true q m t))) (λ t. eq-eqb q m (right q r m e (eqb-true r 0 t)))
+    split q r m e = alike (eqb q m) (eqb r 0) (λ t. eq-eqb r 0 (left q r m e (eqb-true q m t))) (λ t. eq-eqb q m (right q r m e (eqb-true r 0 t)))
       where
         left : (q r m : ℕ) → q + r ≡ m → q ≡ m → r ≡ 0
         left q r m e h = omega arith

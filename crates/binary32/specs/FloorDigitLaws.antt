@@ -16,7 +16,7 @@ use lib.Ieee.Exact.{HasValue, odd-sign}
 use lib.Ieee.Fits.{down-pos}
 use lib.Ieee.Nearest.{div-same}
 use Rattle.binary32.specs.ValueLaws.{round-own}
-use Rattle.binary32.specs.Floor.{floorOf}
+use Rattle.binary32.specs.Binary32.{floorOf}
 use Rattle.binary32.specs.CompareLaws.{zero-of, eq-sym}
 use Rattle.binary32.specs.CastLaws.{neg-round}
 use Rattle.binary32.specs.DigitLaws.{field, digits, few, ofBits-is, Cut, cut, moved, left-over, rest-same}

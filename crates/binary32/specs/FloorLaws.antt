@@ -14,7 +14,7 @@ use lib.Ieee.Back.{round-whole}
 use lib.Ieee.Exact.{HasValue}
 use lib.Ieee.Fits.{down-pos}
 use Rattle.binary32.specs.ValueLaws.{held, round-own}
-use Rattle.binary32.specs.Floor.{wholePart, hasRest, floorPart, floorOf}
+use Rattle.binary32.specs.Binary32.{wholePart, hasRest, floorPart, floorOf}
 
 -- ---- it is exact
 at-most-one-more : (b : Bool) (q : ℕ) → cond b (q + 1) q ≤ q + 1

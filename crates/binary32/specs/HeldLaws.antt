@@ -1,9 +1,10 @@
--- What is held between low and high is low, high, or a float above low and not above high. So what holds of the three holds of it.
+-- What is held between low and high is low, high, or a float above low and not above high. So what holds of the three holds of it;
+-- and its upper bound is one test, of a float that is equal.
 -- Assumes nothing.
-use mathlib.Core.Path.{_≡_, refl}
+use mathlib.Core.Path.{_≡_, refl, sym, ap, _∙_}
 use mathlib.Core.Bool.{Bool, true, false, cond}
 use lib.Ieee.{Float, lt}
-use Rattle.binary32.specs.Held.{heldOf}
+use Rattle.binary32.specs.Steps.{heldOf}
 
 pub held-cases : (P : Float → Type 0) (x low high : Float) → P low → P high → (lt low x ≡ true → lt high x ≡ false → P x) → P (heldOf x low high)
 unfolding heldOf
@@ -20,3 +21,7 @@ held-cases P x low high l h k = first (lt low x) refl
         second : (q : Bool) → P (cond q high low)
         second true = h
         second false = l
+
+-- a float y that is z, and the test whether it is above high, bounded as the definitions bound z
+pub bounded : (y z high : Float) (b : Bool) → y ≡ z → lt high y ≡ b → cond b high y ≡ cond (lt high z) high z
+bounded y z high b e t = sym (ap (λ (k : Bool). cond k high y) t) ∙ ap (λ (k : Float). cond (lt high k) high k) e

@@ -1,19 +1,8 @@
--- A magnitude is a value that binary32 holds, being the argument without its sign. Max and min are NaN only of two, and clamp keeps NaN, by their cases.
--- Assumes nothing.
+-- Max and min are NaN only of two, and clamp keeps NaN: by their cases. Assumes nothing.
 use mathlib.Core.Path.{_≡_, refl, ap}
 use mathlib.Core.Bool.{Bool, true, false, _&&_, cond}
-use Prim.Native.Nat.{zero, suc}
-use lib.Dec.{T}
-use lib.Ieee.{Float, nan, inf, fin, binary32, lt, fits, isNan}
-use Rattle.binary32.specs.Order.{magnitudeOf, before, maxOf, minOf, clampOf}
-
--- ---- magnitude
-pub magnitude-fits : (x : Float) → T (fits binary32 x) → T (fits binary32 (magnitudeOf x))
-unfolding magnitudeOf fits
-magnitude-fits nan h = tt
-magnitude-fits (inf s) h = tt
-magnitude-fits (fin s zero e) h = h
-magnitude-fits (fin s (suc m) e) h = h
+use lib.Ieee.{Float, nan, inf, fin, lt, isNan}
+use Rattle.binary32.specs.Binary32.{before, maxOf, minOf, clampOf}
 
 -- ---- max and min
 -- the number of the two, or either number

@@ -3,10 +3,7 @@
 use mathlib.Core.Path.{_≡_, refl}
 use Prim.Native.Nat.{_-_}
 use lib.Ieee.{mul, sub, lt, toUnsigned, ofBits}
-use Rattle.binary32.specs.Numbers.{float1}
-use Rattle.binary32.specs.Order.{clampOf}
-use Rattle.binary32.specs.Floor.{floorOf}
-use Rattle.binary32.specs.Places.{unsignedPlaceOf}
+use Rattle.binary32.specs.Binary32.{float1, clampOf, floorOf, unsignedPlaceOf}
 
 -- so reads distance place 1
 pub unsigned-at-1 : unsignedPlaceOf float1 ≡ record { entry = 255; delta = float1 }

@@ -19,14 +19,14 @@ use lib.Ieee.Nearest.{nearest-ge}
 use lib.Ieee.Positive.{first-pos}
 use lib.Ieee.Scale.{round-same}
 use lib.Ieee.Back.{round-whole}
+use Rattle.flags.specs.FlagsLaws.{alike}
 use Rattle.binary32.specs.WordsLaws.{word-of-float-of}
 use Rattle.binary32.specs.ValueLaws.{round-own}
-use Rattle.binary32.specs.Floor.{floorPart}
+use Rattle.binary32.specs.Binary32.{floorPart}
 use Rattle.binary32.specs.FloorLaws.{floor-below-zero}
-use Rattle.binary32.specs.Held.{underByte}
-use Rattle.binary32.specs.Raised.{raisable, raisedFloor}
+use Rattle.binary32.specs.Steps.{underByte, raisable, raisedFloor}
 use Rattle.binary32.specs.NanLaws.{at-most-infinity}
-use Rattle.binary32.specs.DigitLaws.{field, same, ltb-scale, ofBits-is, fields-value}
+use Rattle.binary32.specs.DigitLaws.{field, ltb-scale, ofBits-is, fields-value}
 use Rattle.binary32.specs.FloorDigitLaws.{unscaled}
 
 -- ---- a fraction from 2 ^ 23 to 2 ^ 24 is rounded to a whole number
@@ -132,7 +132,7 @@ below-scale false p false q h k = ltb-scale p q h k
 below-scale false p true q h k = refl
 below-scale true p false q h k =
     ap (λ (z : ℕ). ltb 0 z) (sym (add-mul p q h))
-    ∙ same (ltb 0 ((p + q) * h)) (ltb 0 (p + q)) (λ u. lt-ltb 0 (p + q) (first-pos (p + q) h (ltb-true 0 ((p + q) * h) u))) (λ u. lt-ltb 0 ((p + q) * h) (mul-pos (ltb-true 0 (p + q) u) k))
+    ∙ alike (ltb 0 ((p + q) * h)) (ltb 0 (p + q)) (λ u. lt-ltb 0 (p + q) (first-pos (p + q) h (ltb-true 0 ((p + q) * h) u))) (λ u. lt-ltb 0 ((p + q) * h) (mul-pos (ltb-true 0 (p + q) u) k))
 below-scale true p true q h k = ltb-scale q p h k
 
 pub lt-whole : (s : Bool) (m : ℕ) (e : ℤ) (x : Float) (t : Bool) (k : ℕ) → HasValue x t k 1 → lt (fin s m e) x ≡ below s (m * up e) t (k * down e)
@@ -170,14 +170,14 @@ against-plus : (s : Bool) (a c w k : ℕ) → 0 < c → a ≤ 256 * c → w ≡ 
 against-plus false a c w k p h e = plus a (12582912 * c) (k * c) (w * c) (ap (λ (z : ℕ). z * c) e ∙ add-mul 12582912 k c)
   where
     plus : (a x y z : ℕ) → z ≡ x + y → ltb a y ≡ ltb (x + a) z
-    plus a x y z e = same (ltb a y) (ltb (x + a) z) (λ u. lt-ltb (x + a) z (omega (arith, ltb-true a y u))) (λ u. lt-ltb a y (omega (arith, ltb-true (x + a) z u)))
+    plus a x y z e = alike (ltb a y) (ltb (x + a) z) (λ u. lt-ltb (x + a) z (omega (arith, ltb-true a y u))) (λ u. lt-ltb a y (omega (arith, ltb-true (x + a) z u)))
 against-plus true a c w k p h e = minus a (12582912 * c) (k * c) (w * c) (most a c p h) (ap (λ (z : ℕ). z * c) e ∙ add-mul 12582912 k c)
   where
     most : (a c : ℕ) → 0 < c → a ≤ 256 * c → a < 12582912 * c
     most a c p h = omega arith
 
     minus : (a x y z : ℕ) → a < x → z ≡ x + y → ltb 0 (a + y) ≡ ltb (x - a) z
-    minus a x y z l e = same (ltb 0 (a + y)) (ltb (x - a) z) (λ u. lt-ltb (x - a) z (omega (arith, ltb-true 0 (a + y) u))) (λ u. lt-ltb 0 (a + y) (omega (arith, ltb-true (x - a) z u)))
+    minus a x y z l e = alike (ltb 0 (a + y)) (ltb (x - a) z) (λ u. lt-ltb (x - a) z (omega (arith, ltb-true 0 (a + y) u))) (λ u. lt-ltb 0 (a + y) (omega (arith, ltb-true (x - a) z u)))
 
 against-minus : (s : Bool) (a c w k : ℕ) → 0 < c → a ≤ 256 * c → 12582912 ≡ w + k → below s a true (k * c) ≡ ltb (lifted s a c) (w * c)
 against-minus false a c w k p h e = sym (le-ltb (12582912 * c + a) (w * c) (none a (12582912 * c) (k * c) (w * c) (ap (λ (z : ℕ). z * c) e ∙ add-mul w k c)))
@@ -190,7 +190,7 @@ against-minus true a c w k p h e = minus a (12582912 * c) (k * c) (w * c) (most 
     most a c p h = omega arith
 
     minus : (a x y z : ℕ) → a < x → x ≡ z + y → ltb y a ≡ ltb (x - a) z
-    minus a x y z l e = same (ltb y a) (ltb (x - a) z) (λ u. lt-ltb (x - a) z (omega (arith, ltb-true y a u))) (λ u. lt-ltb y a (omega (arith, ltb-true (x - a) z u)))
+    minus a x y z l e = alike (ltb y a) (ltb (x - a) z) (λ u. lt-ltb (x - a) z (omega (arith, ltb-true y a u))) (λ u. lt-ltb y a (omega (arith, ltb-true (x - a) z u)))
 
 within : (s : Bool) (a c : ℕ) → a ≤ cond s 128 256 * c → a ≤ 256 * c
 within true a c h = omega arith

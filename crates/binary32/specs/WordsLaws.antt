@@ -5,7 +5,7 @@ use Prim.Native.Nat.{ℕ, _<_}
 use lib.Dec.{T}
 use lib.Ieee.{Float, nan, inf, fin, binary32, fits, isNan, nanBits, toBits}
 use lib.Ieee.Bits.{toBits-ofBits, ofBits-fits, nanBits-is}
-use Rattle.binary32.specs.Words.{floatOf, wordOf}
+use Rattle.binary32.specs.Binary32.{floatOf, wordOf}
 
 pub word-of-float-of : (n : ℕ) → n < 4294967296 → nanBits binary32 n ≡ false → wordOf (floatOf n) ≡ n
 word-of-float-of n h e = toBits-ofBits binary32 n h (subst (λ (b : Bool). T (not b)) (sym e ∙ nanBits-is binary32 n) tt)

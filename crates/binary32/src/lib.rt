@@ -1,10 +1,11 @@
-// Words and 32-bit floats, each as the other, and what a place in a table is. Order, whole parts and the places themselves are crates of their own.
+// Words and 32-bit floats, each as the other, and what a place in a table is. `order` has magnitude, max, min and clamp, `whole_parts` floor and quantising,
+// `places` the places themselves.
 pub mod order;
 pub mod places;
 pub mod whole_parts;
 
 ghost use mathlib.Core.Path.{_≡_};
-ghost use Rattle.binary32.specs.Words.{floatOf, wordOf};
+ghost use Rattle.binary32.specs.Binary32.{floatOf, wordOf};
 
 // A place in a table of 256 entries: the entry, and how far past it the input lies.
 pub struct Place {

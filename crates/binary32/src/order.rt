@@ -1,7 +1,6 @@
 // The order of 32-bit floats as Rust has it: magnitude, the larger, the smaller, clamping.
 ghost use mathlib.Core.Path.{_≡_};
-ghost use Rattle.binary32.specs.Numbers.{float0, float1};
-ghost use Rattle.binary32.specs.Order.{magnitudeOf, maxOf, minOf, clampOf};
+ghost use Rattle.binary32.specs.Binary32.{float0, float1, magnitudeOf, maxOf, minOf, clampOf};
 
 // x without its sign: the larger of x and 0 - x, which is +0 for either zero.
 pub fn magnitude(x: f32) -> f32

@@ -2,7 +2,7 @@
 ghost use mathlib.Core.Path.{_≡_};
 ghost use Prim.Native.Nat.{_<_};
 ghost use lib.Ieee.{binary32, minus, ofInt};
-ghost use Rattle.binary32.specs.Places.{unsignedPlaceOf, signedPlaceOf};
+ghost use Rattle.binary32.specs.Binary32.{unsignedPlaceOf, signedPlaceOf};
 use crate::Place;
 use crate::whole_parts::held;
 use crate::whole_parts::raised_floor;

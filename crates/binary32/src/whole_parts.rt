@@ -4,10 +4,8 @@ ghost use Prim.Native.Nat.{_-_, _≤_, min};
 ghost use lib.Dec.{T};
 ghost use lib.IntN.{pos};
 ghost use lib.Ieee.{binary32, ofInt, toUnsigned};
-ghost use Rattle.binary32.specs.Floor.{floorOf};
-ghost use Rattle.binary32.specs.Quantize.{quantizedOf};
-ghost use Rattle.binary32.specs.Held.{heldOf, underByte};
-ghost use Rattle.binary32.specs.Raised.{raisable, raisedFloor};
+ghost use Rattle.binary32.specs.Binary32.{floorOf, quantizedOf};
+ghost use Rattle.binary32.specs.Steps.{heldOf, underByte, raisable, raisedFloor};
 
 // x, but low where x is below it or NaN, and high where that is above it.
 pub(crate) fn held(x: f32, low: f32, high: f32) -> f32

@@ -6,19 +6,18 @@ use mathlib.Core.List.{List, [], _∷_, _++_}
 use mathlib.Core.Bool.{true, false}
 use lib.ListN.{set, replicate}
 use lib.Ieee.{Float, ofBits, toBits}
-use Rattle.binary32.specs.Words.{floatOf}
+use Rattle.binary32.specs.Binary32.{floatOf}
 use Rattle.lighting.specs.declared.OptionalLookup.the-variants.{Missing}
 use Rattle.lighting.specs.declared.Distance.the-variants.{Without}
 use Rattle.lighting.specs.declared.Bump.the-variants.{Flat}
 use Rattle.lighting.specs.declared.OptionalShadow.the-variants.{Unshadowed}
 use Rattle.lighting.specs.declared.Light.{Light}
 use Rattle.lighting.specs.declared.Lighting.{Lighting}
-use Rattle.lighting.specs.Blank.{zeroFloat, zeroVector, blankLight}
+use Rattle.lighting.specs.Forms.{every}
+use Rattle.lighting.specs.Lighting.{zeroFloat, zeroVector, blankLight, isScaled, lightAt, on}
 use Rattle.block.specs.declared.BlockForm.the-variants.{Off, NotWellFormed, NanFree, WithNan}
-use Rattle.block.specs.Words.{flagWord, bumpWord, shadowWord, presenceWord, inputWord, absoluteWord, scaleWord, lookupWords, vectorWords, headWords, biasWord, distanceScaleWord, isScaled, flagsWord, lightWords, lightAt, slotWords, slotsWords, packed}
-use Rattle.block.specs.Formed.{words, every, zeros, allZero, eachLookup, eachLit, bumpFormed, shadowFormed, scaleFormed, paddingZero, isNumber, floatFormed, wellFormed}
-use Rattle.block.specs.Reading.{blockBump, blockShadow, blockLookup, blockOptionalLookup, blockVector, blockDistance, blockLight, blockSlotLight, blockLights, blockLighting, on, blockReading}
-use Rattle.block.specs.Answers.{nanFree, formOf, blockForm}
+use Rattle.block.specs.Block.{flagWord, bumpWord, shadowWord, lookupRow, lookupWords, vectorWords, headWords, distanceRow, flagsWord, lightWords, slotWords, slotsWords, packed, words, zeros, allZero, eachLookup, eachLit, bumpFormed, shadowFormed, scaleFormed, paddingZero, isNumber, floatFormed, wellFormed, blockBump, blockShadow, blockLookup, blockOptionalLookup, blockVector, blockDistance, blockLight, blockSlotLight, blockLights, blockLighting, blockReading, distanceWords}
+use Rattle.block.specs.Steps.{nanFree, formOf, blockForm}
 
 one : Float
 one = floatOf 0x3F80_0000
@@ -80,7 +79,7 @@ block =
     ++ replicate 252 0
 
 whole-packs : packed whole ≡ block
-unfolding toBits ofBits whole light one upward block blankLight flagWord bumpWord shadowWord presenceWord inputWord absoluteWord scaleWord lookupWords vectorWords headWords biasWord distanceScaleWord isScaled flagsWord lightWords lightAt slotWords slotsWords packed
+unfolding toBits ofBits whole light one upward block blankLight flagWord bumpWord shadowWord lookupRow lookupWords vectorWords headWords distanceRow isScaled flagsWord lightWords distanceWords lightAt slotWords slotsWords packed
 whole-packs = refl
 
 whole-reads : blockReading (words block) ≡ on whole

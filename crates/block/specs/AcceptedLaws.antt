@@ -1,4 +1,4 @@
--- The lightings that `pack` accepts are the acceptable ones. Of a acceptable lighting's words each clause of a well-formed block holds by itself,
+-- The lightings that `pack` accepts are the acceptable ones. Of an acceptable lighting's words each clause of a well-formed block holds by itself,
 -- and from the words of an accepted one the same clauses give back what is acceptable. Assumes nothing.
 use Prim.Native.Nat.{ℕ, zero, suc, _+_, _-_, _*_, _/_, _%_, _<_, _≤_}
 use native.Mathlib.Omega.{arith}
@@ -6,12 +6,14 @@ use native.Mathlib.Nat.{zero-add}
 use mathlib.Core.Path.{_≡_, refl, sym, ap, subst, _∙_}
 use mathlib.Core.Bool.{Bool, true, false, not, _&&_, _||_}
 use mathlib.Core.List.{List, [], _∷_}
-use lib.Dec.{eqb, ltb, leb}
+use lib.Dec.{eqb, ltb, T}
 use lib.ListN.{getD, getD-replicate}
-use lib.Ieee.{Float, nan, inf, fin, binary32, isNan, toBits}
+use lib.Ieee.{Float, nan, inf, fin, binary32, isNan, toBits, fits}
 use lib.Ieee.Bits.{ofBits-toBits, nanBits-is, nanBits-above}
 use borrow.Author.Tests.{eq-eqb, lt-ltb, le-ltb, le-leb, ltb-true, ltb-false}
-use Rattle.binary32.specs.Words.{wordOf}
+use Rattle.binary32.specs.Binary32.{wordOf}
+use Rattle.vectors.specs.Vectors.{at}
+use Rattle.vectors.specs.Claims.{Vector}
 use Rattle.lighting.specs.declared.Lookup.{Lookup}
 use Rattle.lighting.specs.declared.OptionalLookup.{OptionalLookup}
 use Rattle.lighting.specs.declared.OptionalLookup.the-variants.{Missing, Present}
@@ -23,18 +25,19 @@ use Rattle.lighting.specs.declared.OptionalShadow.{OptionalShadow}
 use Rattle.lighting.specs.declared.OptionalShadow.the-variants.{Unshadowed, Shadowed}
 use Rattle.lighting.specs.declared.Light.{Light}
 use Rattle.lighting.specs.declared.Lighting.{Lighting}
-use Rattle.vectors.specs.Vectors.{at}
-use Rattle.block.specs.Words.{bitOf, flagWord, bumpWord, shadowWord, presenceWord, inputWord, absoluteWord, scaleWord, lookupWords, vectorWords, headWords, biasWord, distanceScaleWord, isScaled, flagsWord, lightWords, lightAt, packed}
-use Rattle.block.specs.Formed.{words, from, lookupAt, slotAt, every, zeros, bitAt, bumpFormed, shadowFormed, scaleFormed, paddingZero, isNumber, floatFormed, wellFormed}
-use Rattle.block.specs.Answers.{bumpUnit, shadowUnit, inRange, accepted}
-use Rattle.block.specs.Acceptable.{lookupAcceptable, optionalLookupAcceptable, acceptable}
-use Rattle.block.specs.Claims.{Single, Vector, DistanceHeld, LightHeld, Held, AcceptedIs}
+use Rattle.lighting.specs.Forms.{every}
+use Rattle.lighting.specs.Lighting.{isScaled, lightAt, bumpUnit, shadowUnit, inRange, slotOf}
+use Rattle.lighting.specs.Claims.{LightFits, DistanceFits, LightingFits}
+use Rattle.block.specs.Block.{bitOf, flagWord, bumpWord, shadowWord, lookupRow, lookupWords, vectorWords, headWords, distanceRow, flagsWord, lightWords, packed, words, from, lookupAt, slotAt, zeros, bitAt, bumpFormed, shadowFormed, scaleFormed, paddingZero, isNumber, floatFormed, wellFormed, accepted, distanceWords}
+use Rattle.block.specs.Steps.{lookupAcceptable, optionalLookupAcceptable, acceptable}
+use Rattle.block.specs.Claims.{AcceptedIs}
 use Rattle.block.specs.TestLaws.{never, both-first, both-second, _also_, or-first, or-second, same-bool, chain-first, chain-part, every-one}
 use Rattle.block.specs.FormedLaws.{Shaped, formed-parts, formed-made}
 use Rattle.block.specs.FlagLaws.{flag-is, bit-small, bit-formed, flag-4, flags-small, needs-back, needs-small}
 use Rattle.block.specs.ListLaws.{picks, picks-at, slot-lit, slot-unlit, count-of}
 use Rattle.block.specs.PackedLaws.{range-bump, range-shadow, range-some, range-count, range-number, flags-are}
 use Rattle.block.specs.SmallLaws.{passes}
+use Rattle.block.specs.WordLaws.{number-is, number-formed, small-formed}
 
 -- a float's word
 
@@ -44,45 +47,37 @@ nan-formed nan e = refl
 nan-formed (inf s) e = never e
 nan-formed (fin s m k) e = never e
 
-number-formed : (n : ℕ) → n % 0x8000_0000 ≤ 0x7F80_0000 → floatFormed n ≡ true
-unfolding floatFormed isNumber
-number-formed n h = or-first (leb (n % 0x8000_0000) 0x7F80_0000) (eqb n 0x7FC0_0000) (le-leb (n % 0x8000_0000) 0x7F80_0000 h)
-
--- a word too small for a NaN
-pub small-formed : (n : ℕ) → n ≤ 0x7F80_0000 → floatFormed n ≡ true
-small-formed n h = number-formed n (omega arith)
-
-pub float-formed : (x : Float) → Single x → floatFormed (wordOf x) ≡ true
+float-formed : (x : Float) → T (fits binary32 x) → floatFormed (wordOf x) ≡ true
 float-formed x h = go (isNan x) refl
   where
     go : (b : Bool) → isNan x ≡ b → floatFormed (wordOf x) ≡ true
     go true e = nan-formed x e
     go false e =
         number-formed (wordOf x)
-        (ltb-false 0x7F80_0000 (wordOf x % 0x8000_0000) (sym (nanBits-above binary32 (wordOf x)) ∙ nanBits-is binary32 (wordOf x) ∙ ap isNan (ofBits-toBits binary32 x h) ∙ e))
+        (number-is (wordOf x) (ltb-false 0x7F80_0000 (wordOf x % 0x8000_0000) (sym (nanBits-above binary32 (wordOf x)) ∙ nanBits-is binary32 (wordOf x) ∙ ap isNan (ofBits-toBits binary32 x h) ∙ e)))
 
 -- the words of a light
 
-module _ (l : Light) (h : LightHeld l) (n : l .number .0 ≤ 7) where
+module _ (l : Light) (h : LightFits l) (n : l .number .0 ≤ 7) where
   flags-formed : flagsWord l < 128
   flags-formed = omega (arith, flags-are l, flags-small (l .directional) (l .«two_sided») (l .geometric0) (l .geometric1) (isScaled (l .distance)) (l .spotlight) (l .shadowed))
 
-  bias-formed : (d : Distance) → DistanceHeld d → floatFormed (biasWord d) ≡ true
-  unfolding biasWord
+  bias-formed : (d : Distance) → DistanceFits d → floatFormed (distanceRow d .0) ≡ true
+  unfolding distanceRow
   bias-formed Without k = small-formed 0 (omega arith)
   bias-formed (Scaled b s) k = float-formed b (k .0)
 
-  scale-formed : (d : Distance) → DistanceHeld d → floatFormed (distanceScaleWord d) ≡ true
-  unfolding distanceScaleWord
+  scale-formed : (d : Distance) → DistanceFits d → floatFormed (distanceRow d .1) ≡ true
+  unfolding distanceRow
   scale-formed Without k = small-formed 0 (omega arith)
   scale-formed (Scaled b s) k = float-formed s (k .1)
 
   light-floats : every 36 (λ j. floatFormed (words (lightWords l) j)) ≡ true
-  unfolding every lightWords vectorWords
+  unfolding every lightWords distanceWords vectorWords
   light-floats =
       let z : floatFormed 0 ≡ true = small-formed 0 (omega arith) in
       let v : (x : List Float) → Vector x → (floatFormed (wordOf (at x 0)) ≡ true) × (floatFormed (wordOf (at x 1)) ≡ true) × (floatFormed (wordOf (at x 2)) ≡ true) =
-      λ x k. (float-formed (at x 0) (k .first), float-formed (at x 1) (k .second), float-formed (at x 2) (k .third)) in
+      λ x k. (float-formed (at x 0) (k .fit 0), float-formed (at x 1) (k .fit 1), float-formed (at x 2) (k .fit 2)) in
       let v0 = v (l .specular0) (h .specular0) in
       let v1 = v (l .specular1) (h .specular1) in
       let v2 = v (l .diffuse) (h .diffuse) in
@@ -101,24 +96,24 @@ module _ (l : Light) (h : LightHeld l) (n : l .number .0 ≤ 7) where
       also small-formed (flagsWord l) (omega (arith, flags-formed)) also small-formed (l .number .0) (omega arith) also z also z
 
   light-flags : ltb (words (lightWords l) 32) 128 ≡ true
-  unfolding lightWords vectorWords
+  unfolding lightWords distanceWords vectorWords
   light-flags = lt-ltb (flagsWord l) 128 flags-formed
 
   light-number : ltb (words (lightWords l) 33) 8 ≡ true
-  unfolding lightWords vectorWords
+  unfolding lightWords distanceWords vectorWords
   light-number = lt-ltb (l .number .0) 8 (omega arith)
 
   light-padding : paddingZero (words (lightWords l)) ≡ true
-  unfolding paddingZero zeros every lightWords vectorWords
+  unfolding paddingZero zeros every lightWords distanceWords vectorWords
   light-padding = refl
 
-  without-zero : (d : Distance) (f : Bool) → f ≡ isScaled d → (f || (eqb (biasWord d) 0 && eqb (distanceScaleWord d) 0)) ≡ true
-  unfolding isScaled biasWord distanceScaleWord
+  without-zero : (d : Distance) (f : Bool) → f ≡ isScaled d → (f || (eqb (distanceRow d .0) 0 && eqb (distanceRow d .1) 0)) ≡ true
+  unfolding isScaled distanceRow
   without-zero Without f e = rw e refl
   without-zero (Scaled b s) f e = rw e refl
 
   light-without : (bitAt (words (lightWords l) 32) 16 || zeros (words (lightWords l)) 28 2) ≡ true
-  unfolding zeros every lightWords vectorWords
+  unfolding zeros every lightWords distanceWords vectorWords
   light-without =
       without-zero (l .distance) (bitAt (flagsWord l) 16)
       (ap (λ (k : ℕ). bitAt k 16) (flags-are l) ∙ flag-4 (l .directional) (l .«two_sided») (l .geometric0) (l .geometric1) (isScaled (l .distance)) (l .spotlight) (l .shadowed))
@@ -188,20 +183,20 @@ shadow-formed (Shadowed s) h =
 half-view : (a b : Bool) → (not a || b) ≡ true → (not (bitAt (flagWord a 1 + flagWord b 2) 1) || bitAt (flagWord a 1 + flagWord b 2) 2) ≡ true
 half-view a b h = rw (needs-back a b .0, needs-back a b .1) h
 
--- what a acceptable lookup's words are
+-- what an acceptable lookup's words are
 record LookupWords (o : OptionalLookup) : Type 0 where
-  presence : ltb (presenceWord o) 2 ≡ true
-  input : ltb (inputWord o) 8 ≡ true
-  absolute : ltb (absoluteWord o) 2 ≡ true
-  scale : scaleFormed (scaleWord o) ≡ true
-  missing : (eqb (presenceWord o) 1 || (eqb (inputWord o) 0 && eqb (absoluteWord o) 0 && eqb (scaleWord o) 0)) ≡ true
+  presence : ltb (lookupRow o .0) 2 ≡ true
+  input : ltb (lookupRow o .1) 8 ≡ true
+  absolute : ltb (lookupRow o .2) 2 ≡ true
+  scale : scaleFormed (lookupRow o .3) ≡ true
+  missing : (eqb (lookupRow o .0) 1 || (eqb (lookupRow o .1) 0 && eqb (lookupRow o .2) 0 && eqb (lookupRow o .3) 0)) ≡ true
 
 zero-scale : scaleFormed 0 ≡ true
 unfolding scaleFormed
 zero-scale = refl
 
 lookup-words : (o : OptionalLookup) → optionalLookupAcceptable o ≡ true → LookupWords o
-unfolding optionalLookupAcceptable lookupAcceptable presenceWord inputWord absoluteWord scaleWord
+unfolding optionalLookupAcceptable lookupAcceptable lookupRow
 lookup-words Missing h = record { presence = refl; input = refl; absolute = refl; scale = zero-scale; missing = refl }
 lookup-words (Present l) h = record {
   presence = refl;
@@ -261,22 +256,22 @@ acceptable-parts l h =
       range = c 8;
     }
 
-present : (l : Lookup) → eqb (presenceWord (Present l)) 1 ≡ true
-unfolding presenceWord
+present : (l : Lookup) → eqb (lookupRow (Present l) .0) 1 ≡ true
+unfolding lookupRow
 present l = refl
 
 present-acceptable : (l : Lookup) → lookupAcceptable l ≡ true → optionalLookupAcceptable (Present l) ≡ true
 unfolding optionalLookupAcceptable
 present-acceptable l h = h
 
-module _ (l : Lighting) (h : Held l) (f : Acceptable l) where
-  lit-slot : (s : ℕ) → s < l .«light_count» → picks (from (words (packed l)) (slotAt s)) 0 36 ≡ lightWords (lightAt l s)
+module _ (l : Lighting) (h : LightingFits l) (f : Acceptable l) where
+  lit-slot : (s : ℕ) → s < l .«light_count» → picks (from (words (packed l)) (slotAt (slotOf s))) 0 36 ≡ lightWords (lightAt l (slotOf s))
   lit-slot s k = let c : l .«light_count» ≤ 8 = range-count l (f .range) in slot-lit l s (omega arith) (lt-ltb s (l .«light_count») k)
 
-  held : (s : ℕ) → s < l .«light_count» → LightHeld (lightAt l s)
+  held : (s : ℕ) → s < l .«light_count» → LightFits (lightAt l (slotOf s))
   held s k = let c : l .«light_count» ≤ 8 = range-count l (f .range) in h .lights s (omega arith)
 
-  few-number : (s : ℕ) → s < l .«light_count» → lightAt l s .number .0 ≤ 7
+  few-number : (s : ℕ) → s < l .«light_count» → lightAt l (slotOf s) .number .0 ≤ 7
   few-number s k = range-number l (f .range) s k
 
   d0 : LookupWords (l .distribution0)
@@ -301,16 +296,16 @@ module _ (l : Lighting) (h : Held l) (f : Acceptable l) where
   sp = lookup-words (Present (l .spotlight)) (present-acceptable (l .spotlight) (f .spotlight))
 
   -- a word past the lit slots
-  unlit-zero : (i : ℕ) → slotAt (l .«light_count») ≤ i → i < 328 → words (packed l) i ≡ 0
+  unlit-zero : (i : ℕ) → slotAt (slotOf (l .«light_count»)) ≤ i → i < 328 → words (packed l) i ≡ 0
   unlit-zero i p q =
       let s = (i - 40) / 36 in
       let j = (i - 40) % 36 in
-      let e : slotAt s + j ≡ i = omega arith in
+      let e : slotAt (slotOf s) + j ≡ i = omega arith in
       let m : s < 8 = omega arith in
       let u : l .«light_count» ≤ s = omega arith in
       ap (words (packed l)) (sym e)
-      ∙ ap (λ (k : ℕ). words (packed l) (slotAt s + k)) (sym (zero-add j))
-      ∙ sym (picks-at (from (words (packed l)) (slotAt s)) 0 36 j (omega arith))
+      ∙ ap (λ (k : ℕ). words (packed l) (slotAt (slotOf s) + k)) (sym (zero-add j))
+      ∙ sym (picks-at (from (words (packed l)) (slotAt (slotOf s))) 0 36 j (omega arith))
       ∙ ap (λ (ws : List ℕ). words ws j) (slot-unlit l s m (le-ltb s (l .«light_count») u))
       ∙ getD-replicate 36 j 0 0 (omega arith)
 
@@ -329,57 +324,57 @@ module _ (l : Lighting) (h : Held l) (f : Acceptable l) where
     fresnel-secondary = bit-formed (l .«fresnel_secondary»);
     clamp = bit-formed (l .«clamp_highlights»);
     needs = needs-small (l .«needs_half») (l .«needs_view»);
-    flags = λ s k. word-listed (from (words (packed l)) (slotAt s)) (lightWords (lightAt l s)) (λ n. ltb n 128) (lit-slot s k) .0 ∙ light-flags (lightAt l s) (held s k) (few-number s k);
+    flags = λ s k. word-listed (from (words (packed l)) (slotAt (slotOf s))) (lightWords (lightAt l (slotOf s))) (λ n. ltb n 128) (lit-slot s k) .0 ∙ light-flags (lightAt l (slotOf s)) (held s k) (few-number s k);
     half-view = half-view (l .«needs_half») (l .«needs_view») (f .half-view);
     spotlight = present (l .spotlight);
     scale = seven (λ k. scaleFormed (words (packed l) (lookupAt k + 3))) (d0 .scale) (d1 .scale) (fr .scale) (re .scale) (gr .scale) (bl .scale) (sp .scale);
     missing = seven (λ k. eqb (words (packed l) (lookupAt k + 0)) 1 || zeros (from (words (packed l)) (lookupAt k)) 1 3) (d0 .missing) (d1 .missing) (fr .missing) (re .missing) (gr .missing) (bl .missing) (sp .missing);
-    without = λ s k. without-listed (from (words (packed l)) (slotAt s)) (lightWords (lightAt l s)) (lit-slot s k) ∙ light-without (lightAt l s) (held s k) (few-number s k);
-    number = λ s k. word-listed (from (words (packed l)) (slotAt s)) (lightWords (lightAt l s)) (λ n. ltb n 8) (lit-slot s k) .1 ∙ light-number (lightAt l s) (held s k) (few-number s k);
+    without = λ s k. without-listed (from (words (packed l)) (slotAt (slotOf s))) (lightWords (lightAt l (slotOf s))) (lit-slot s k) ∙ light-without (lightAt l (slotOf s)) (held s k) (few-number s k);
+    number = λ s k. word-listed (from (words (packed l)) (slotAt (slotOf s))) (lightWords (lightAt l (slotOf s))) (λ n. ltb n 8) (lit-slot s k) .1 ∙ light-number (lightAt l (slotOf s)) (held s k) (few-number s k);
     head-padding = refl;
-    padding = λ s k. padding-listed (from (words (packed l)) (slotAt s)) (lightWords (lightAt l s)) (lit-slot s k) ∙ light-padding (lightAt l s) (held s k) (few-number s k);
-    unused = λ k m. eq-eqb _ 0 (unlit-zero (slotAt (l .«light_count») + k) (omega arith) (omega arith));
+    padding = λ s k. padding-listed (from (words (packed l)) (slotAt (slotOf s))) (lightWords (lightAt l (slotOf s))) (lit-slot s k) ∙ light-padding (lightAt l (slotOf s)) (held s k) (few-number s k);
+    unused = λ k m. eq-eqb _ 0 (unlit-zero (slotAt (slotOf (l .«light_count»)) + k) (omega arith) (omega arith));
   }
 
   ambient-four : every 4 (λ j. floatFormed (words (packed l) (36 + j))) ≡ true
   unfolding every packed headWords lookupWords vectorWords
   ambient-four =
       let v = l .«global_ambient» in
-      float-formed (at v 0) (h .ambient .first) also float-formed (at v 1) (h .ambient .second) also float-formed (at v 2) (h .ambient .third) also small-formed 0 (omega arith)
+      float-formed (at v 0) (h .ambient .fit 0) also float-formed (at v 1) (h .ambient .fit 1) also float-formed (at v 2) (h .ambient .fit 2) also small-formed 0 (omega arith)
 
   ambient-formed : (i : ℕ) → 36 ≤ i → i < 40 → floatFormed (words (packed l) i) ≡ true
   ambient-formed i p q =
       let e : 36 + (i - 36) ≡ i = omega arith in
       subst (λ (k : ℕ). floatFormed (words (packed l) k) ≡ true) e (every-one 4 (λ j. floatFormed (words (packed l) (36 + j))) (i - 36) ambient-four (omega arith))
 
-  lit-formed : (i : ℕ) → 40 ≤ i → i < slotAt (l .«light_count») → floatFormed (words (packed l) i) ≡ true
+  lit-formed : (i : ℕ) → 40 ≤ i → i < slotAt (slotOf (l .«light_count»)) → floatFormed (words (packed l) i) ≡ true
   lit-formed i p q =
       let s = (i - 40) / 36 in
       let j = (i - 40) % 36 in
-      let e : slotAt s + j ≡ i = omega arith in
+      let e : slotAt (slotOf s) + j ≡ i = omega arith in
       let k : s < l .«light_count» = omega arith in
       subst (λ (n : ℕ). floatFormed (words (packed l) n) ≡ true) e
-      (every-one 36 (λ m. floatFormed (words (packed l) (slotAt s + m))) j
-      (floats-listed (from (words (packed l)) (slotAt s)) (lightWords (lightAt l s)) (lit-slot s k) ∙ light-floats (lightAt l s) (held s k) (few-number s k)) (omega arith))
+      (every-one 36 (λ m. floatFormed (words (packed l) (slotAt (slotOf s) + m))) j
+      (floats-listed (from (words (packed l)) (slotAt (slotOf s))) (lightWords (lightAt l (slotOf s))) (lit-slot s k) ∙ light-floats (lightAt l (slotOf s)) (held s k) (few-number s k)) (omega arith))
 
-  floats : (i : ℕ) → 36 ≤ i → i < slotAt (words (packed l) 1) → floatFormed (words (packed l) i) ≡ true
+  floats : (i : ℕ) → 36 ≤ i → i < slotAt (slotOf (words (packed l) 1)) → floatFormed (words (packed l) i) ≡ true
   floats i p q = go (ltb i 40) refl
     where
       go : (b : Bool) → ltb i 40 ≡ b → floatFormed (words (packed l) i) ≡ true
       go true e = ambient-formed i p (ltb-true i 40 e)
-      go false e = lit-formed i (ltb-false i 40 e) (subst (λ (n : ℕ). i < slotAt n) (count-of l) q)
+      go false e = lit-formed i (ltb-false i 40 e) (subst (λ (n : ℕ). i < slotAt (slotOf n)) (count-of l) q)
 
   acceptable-formed : wellFormed (words (packed l)) ≡ true
   acceptable-formed = formed-made (words (packed l)) (record { shape = shaped; floats = passes (words (packed l)) shaped floatFormed small-formed floats })
 
-acceptable-accepted : (l : Lighting) → Held l → acceptable l ≡ true → accepted l ≡ true
+acceptable-accepted : (l : Lighting) → LightingFits l → acceptable l ≡ true → accepted l ≡ true
 unfolding accepted
 acceptable-accepted l h e = let f = acceptable-parts l e in f .range also acceptable-formed l h f
 
 -- an accepted lighting is acceptable
 
-optional-acceptable : (o : OptionalLookup) → ltb (inputWord o) 8 ≡ true → scaleFormed (scaleWord o) ≡ true → optionalLookupAcceptable o ≡ true
-unfolding optionalLookupAcceptable lookupAcceptable inputWord scaleWord
+optional-acceptable : (o : OptionalLookup) → ltb (lookupRow o .1) 8 ≡ true → scaleFormed (lookupRow o .3) ≡ true → optionalLookupAcceptable o ≡ true
+unfolding optionalLookupAcceptable lookupAcceptable lookupRow
 optional-acceptable Missing p q = refl
 optional-acceptable (Present l) p q = p also q
 

@@ -6,8 +6,7 @@ use mathlib.Core.Path.{_≡_, refl, ap, _∙_}
 use mathlib.Core.Bool.{Bool, true, false}
 use lib.Dec.{eqb, ltb}
 use borrow.Author.Tests.{lt-ltb, ltb-true}
-use Rattle.block.specs.Words.{bitOf, flagWord}
-use Rattle.block.specs.Formed.{bitAt}
+use Rattle.block.specs.Block.{bitOf, flagWord, bitAt}
 
 pub flag-is : (b : Bool) (w : ℕ) → flagWord b w ≡ w * bitOf b
 unfolding flagWord

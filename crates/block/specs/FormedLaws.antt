@@ -5,7 +5,9 @@ use mathlib.Core.Path.{_≡_}
 use mathlib.Core.Bool.{Bool, true, _||_, not}
 use mathlib.Core.List.{List, [], _∷_}
 use lib.Dec.{ltb, leb, eqb}
-use Rattle.block.specs.Formed.{from, lookupAt, slotAt, every, zeros, eachLookup, eachLit, bitAt, bumpFormed, shadowFormed, scaleFormed, paddingZero, floatFormed, wellFormed}
+use Rattle.lighting.specs.Forms.{every}
+use Rattle.lighting.specs.Lighting.{slotOf}
+use Rattle.block.specs.Block.{from, lookupAt, slotAt, zeros, eachLookup, eachLit, bitAt, bumpFormed, shadowFormed, scaleFormed, paddingZero, floatFormed, wellFormed}
 use Rattle.block.specs.TestLaws.{_also_, chain-first, chain-part, every-one, every-of}
 
 -- every clause but that on NaN
@@ -22,16 +24,16 @@ pub record Shaped (w : ℕ → ℕ) : Type 0 where
   pub fresnel-secondary : ltb (w 5) 2 ≡ true
   pub clamp : ltb (w 6) 2 ≡ true
   pub needs : ltb (w 7) 4 ≡ true
-  pub flags : (s : ℕ) → s < w 1 → ltb (w (slotAt s + 32)) 128 ≡ true
+  pub flags : (s : ℕ) → s < w 1 → ltb (w (slotAt (slotOf s) + 32)) 128 ≡ true
   pub half-view : (not (bitAt (w 7) 1) || bitAt (w 7) 2) ≡ true
   pub spotlight : eqb (w 32) 1 ≡ true
   pub scale : (k : ℕ) → k < 7 → scaleFormed (w (lookupAt k + 3)) ≡ true
   pub missing : (k : ℕ) → k < 7 → (eqb (w (lookupAt k + 0)) 1 || zeros (from w (lookupAt k)) 1 3) ≡ true
-  pub without : (s : ℕ) → s < w 1 → (bitAt (w (slotAt s + 32)) 16 || zeros (from w (slotAt s)) 28 2) ≡ true
-  pub number : (s : ℕ) → s < w 1 → ltb (w (slotAt s + 33)) 8 ≡ true
+  pub without : (s : ℕ) → s < w 1 → (bitAt (w (slotAt (slotOf s) + 32)) 16 || zeros (from w (slotAt (slotOf s))) 28 2) ≡ true
+  pub number : (s : ℕ) → s < w 1 → ltb (w (slotAt (slotOf s) + 33)) 8 ≡ true
   pub head-padding : eqb (w 39) 0 ≡ true
-  pub padding : (s : ℕ) → s < w 1 → paddingZero (from w (slotAt s)) ≡ true
-  pub unused : (k : ℕ) → k < 328 - slotAt (w 1) → eqb (w (slotAt (w 1) + k)) 0 ≡ true
+  pub padding : (s : ℕ) → s < w 1 → paddingZero (from w (slotAt (slotOf s))) ≡ true
+  pub unused : (k : ℕ) → k < 328 - slotAt (slotOf (w 1)) → eqb (w (slotAt (slotOf (w 1)) + k)) 0 ≡ true
 
 pub record Formed (w : ℕ → ℕ) : Type 0 where
   pub shape : Shaped w
@@ -42,7 +44,7 @@ module _ (w : ℕ → ℕ) where
   lookups p k = p (from w (lookupAt k))
 
   abbrev lit : ((ℕ → ℕ) → Bool) → ℕ → Bool
-  lit p s = p (from w (slotAt s))
+  lit p s = p (from w (slotAt (slotOf s)))
 
   -- the clauses after the first, in order
   abbrev clauses : List Bool
@@ -67,7 +69,7 @@ module _ (w : ℕ → ℕ) where
       ∷ every (w 1) (lit (λ v. ltb (v 33) 8))
       ∷ eqb (w 39) 0
       ∷ every (w 1) (lit paddingZero)
-      ∷ every (328 - slotAt (w 1)) (λ k. eqb (w (slotAt (w 1) + k)) 0)
+      ∷ every (328 - slotAt (slotOf (w 1))) (λ k. eqb (w (slotAt (slotOf (w 1)) + k)) 0)
       ∷ every 328 (λ i. floatFormed (w i))
       ∷ []
 
@@ -98,7 +100,7 @@ module _ (w : ℕ → ℕ) where
           number = λ s m. every-one (w 1) (lit (λ v. ltb (v 33) 8)) s (c 17) m;
           head-padding = c 18;
           padding = λ s m. every-one (w 1) (lit paddingZero) s (c 19) m;
-          unused = λ k m. every-one (328 - slotAt (w 1)) (λ j. eqb (w (slotAt (w 1) + j)) 0) k (c 20) m;
+          unused = λ k m. every-one (328 - slotAt (slotOf (w 1))) (λ j. eqb (w (slotAt (slotOf (w 1)) + j)) 0) k (c 20) m;
         };
         floats = λ i m. every-one 328 (λ j. floatFormed (w j)) i (c 21) m;
       }
@@ -127,5 +129,5 @@ module _ (w : ℕ → ℕ) where
       also every-of (w 1) (lit (λ v. ltb (v 33) 8)) (f .shape .number)
       also f .shape .head-padding
       also every-of (w 1) (lit paddingZero) (f .shape .padding)
-      also every-of (328 - slotAt (w 1)) (λ k. eqb (w (slotAt (w 1) + k)) 0) (f .shape .unused)
+      also every-of (328 - slotAt (slotOf (w 1))) (λ k. eqb (w (slotAt (slotOf (w 1)) + k)) 0) (f .shape .unused)
       also every-of 328 (λ i. floatFormed (w i)) (f .floats)

@@ -1,8 +1,5 @@
-pub mod Words
-pub mod Formed
-pub mod Reading
-pub mod Answers
-pub mod Acceptable
+pub mod Block
+pub mod Steps
 pub mod Claims
 pub mod TestLaws
 pub mod FormedLaws
@@ -13,4 +10,4 @@ pub mod WordLaws
 pub mod SmallLaws
 pub mod ReadLaws
 pub mod AcceptedLaws
-pub mod AnswerLaws
+pub mod OffLaws

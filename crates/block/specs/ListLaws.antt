@@ -12,8 +12,8 @@ use lib.Seq.{take-all, drop-cons, drop-at, drop-append-le, take-append-le, drop-
 use borrow.Author.Tests.{eqb-true, eqb-false}
 use Rattle.lighting.specs.declared.Light.{Light}
 use Rattle.lighting.specs.declared.Lighting.{Lighting}
-use Rattle.block.specs.Words.{lookupWords, vectorWords, headWords, lightWords, lightAt, slotWords, slotsWords, packed}
-use Rattle.block.specs.Formed.{words, from, slotAt}
+use Rattle.lighting.specs.Lighting.{lightAt, slotOf}
+use Rattle.block.specs.Block.{lookupWords, vectorWords, headWords, lightWords, slotWords, slotsWords, packed, words, from, slotAt, distanceWords}
 
 -- the n words from i on, one after the other
 abbrev pub picks : (ℕ → ℕ) → ℕ → ℕ → List ℕ
@@ -40,7 +40,7 @@ zero-picks w i (suc n) f =
 
 -- of a list
 
-pub picked : (b : List ℕ) (i n : ℕ) → i + n ≤ length b → take n (drop i b) ≡ picks (words b) i n
+picked : (b : List ℕ) (i n : ℕ) → i + n ≤ length b → take n (drop i b) ≡ picks (words b) i n
 picked b i zero h = refl
 picked b i (suc n) h =
     ap (λ (l : List ℕ). take (suc n) l) (drop-cons b i 0 (omega arith))
@@ -55,66 +55,66 @@ pub length-head : (l : Lighting) → length (headWords l) ≡ 40
 unfolding headWords lookupWords vectorWords
 length-head l = refl
 
-pub length-light : (l : Light) → length (lightWords l) ≡ 36
-unfolding lightWords vectorWords
+length-light : (l : Light) → length (lightWords l) ≡ 36
+unfolding lightWords distanceWords vectorWords
 length-light l = refl
 
-pub length-slot : (l : Lighting) (s : ℕ) → length (slotWords l s) ≡ 36
+length-slot : (l : Lighting) (s : ℕ) → length (slotWords l (slotOf s)) ≡ 36
 unfolding slotWords
 length-slot l s = go (ltb s (l .«light_count»))
   where
-    go : (b : Bool) → length (cond b (lightWords (lightAt l s)) (replicate 36 0)) ≡ 36
-    go true = length-light (lightAt l s)
+    go : (b : Bool) → length (cond b (lightWords (lightAt l (slotOf s))) (replicate 36 0)) ≡ 36
+    go true = length-light (lightAt l (slotOf s))
     go false = refl
 
 pub length-slots : (l : Lighting) (n : ℕ) → length (slotsWords l n) ≡ 36 * n
 unfolding slotsWords
 length-slots l zero = refl
-length-slots l (suc n) = let e : length (slotsWords l n) ≡ 36 * n = length-slots l n in omega (arith, length-append (slotsWords l n) (slotWords l n), length-slot l n)
+length-slots l (suc n) = let e : length (slotsWords l n) ≡ 36 * n = length-slots l n in omega (arith, length-append (slotsWords l n) (slotWords l (slotOf n)), length-slot l n)
 
 pub length-packed : (l : Lighting) → length (packed l) ≡ 328
 unfolding packed
 length-packed l = omega (arith, length-append (headWords l) (slotsWords l 8), length-head l, length-slots l 8)
 
 -- the words of a slot, among those of the first n
-part-of : (l : Lighting) (n s : ℕ) → s < n → take 36 (drop (36 * s) (slotsWords l n)) ≡ slotWords l s
+part-of : (l : Lighting) (n s : ℕ) → s < n → take 36 (drop (36 * s) (slotsWords l n)) ≡ slotWords l (slotOf s)
 unfolding slotsWords
 part-of l zero s h = absurd (not-suc-le-zero h)
 part-of l (suc n) s h = go (eqb s n) refl (λ k. part-of l n s k)
   where
-    go : (b : Bool) → eqb s n ≡ b → (s < n → take 36 (drop (36 * s) (slotsWords l n)) ≡ slotWords l s) → take 36 (drop (36 * s) (slotsWords l n ++ slotWords l n)) ≡ slotWords l s
+    go : (b : Bool) → eqb s n ≡ b → (s < n → take 36 (drop (36 * s) (slotsWords l n)) ≡ slotWords l (slotOf s)) → take 36 (drop (36 * s) (slotsWords l n ++ slotWords l (slotOf n))) ≡ slotWords l (slotOf s)
     go true e r =
         let k : s ≡ n = eqb-true s n e in
-        ap (λ (x : List ℕ). take 36 x) (drop-at (slotsWords l n) (slotWords l n) (36 * s) (length-slots l n ∙ ap (λ (j : ℕ). 36 * j) (sym k)))
-        ∙ take-all 36 (slotWords l n) (omega (arith, length-slot l n))
-        ∙ ap (λ (j : ℕ). slotWords l j) (sym k)
+        ap (λ (x : List ℕ). take 36 x) (drop-at (slotsWords l n) (slotWords l (slotOf n)) (36 * s) (length-slots l n ∙ ap (λ (j : ℕ). 36 * j) (sym k)))
+        ∙ take-all 36 (slotWords l (slotOf n)) (omega (arith, length-slot l n))
+        ∙ ap (λ (j : ℕ). slotWords l (slotOf j)) (sym k)
     go false e r =
         let ne : s ≡ n → ⊥ = eqb-false s n e in
         let long : length (slotsWords l n) ≡ 36 * n = length-slots l n in
         let rest : length (drop (36 * s) (slotsWords l n)) ≡ length (slotsWords l n) - 36 * s = length-drop (36 * s) (slotsWords l n) in
-        ap (λ (x : List ℕ). take 36 x) (drop-append-le (36 * s) (slotsWords l n) (slotWords l n) (omega arith))
-        ∙ take-append-le 36 (drop (36 * s) (slotsWords l n)) (slotWords l n) (omega arith)
+        ap (λ (x : List ℕ). take 36 x) (drop-append-le (36 * s) (slotsWords l n) (slotWords l (slotOf n)) (omega arith))
+        ∙ take-append-le 36 (drop (36 * s) (slotsWords l n)) (slotWords l (slotOf n)) (omega arith)
         ∙ r (omega arith)
 
-packed-part : (l : Lighting) (s : ℕ) → s < 8 → take 36 (drop (slotAt s) (packed l)) ≡ slotWords l s
+packed-part : (l : Lighting) (s : ℕ) → s < 8 → take 36 (drop (slotAt (slotOf s)) (packed l)) ≡ slotWords l (slotOf s)
 unfolding packed
 packed-part l s h =
     ap (λ (k : ℕ). take 36 (drop (k + 36 * s) (headWords l ++ slotsWords l 8))) (sym (length-head l))
     ∙ ap (λ (x : List ℕ). take 36 x) (drop-append-add (headWords l) (slotsWords l 8) (36 * s))
     ∙ part-of l 8 s h
 
-pub slot-of : (l : Lighting) (s : ℕ) → s < 8 → picks (from (words (packed l)) (slotAt s)) 0 36 ≡ slotWords l s
+slot-of : (l : Lighting) (s : ℕ) → s < 8 → picks (from (words (packed l)) (slotAt (slotOf s))) 0 36 ≡ slotWords l (slotOf s)
 slot-of l s h =
-    picks-from (words (packed l)) (slotAt s) 0 36
-    ∙ ap (λ (k : ℕ). picks (words (packed l)) k 36) (add-zero (slotAt s))
-    ∙ sym (picked (packed l) (slotAt s) 36 (omega (arith, length-packed l)))
+    picks-from (words (packed l)) (slotAt (slotOf s)) 0 36
+    ∙ ap (λ (k : ℕ). picks (words (packed l)) k 36) (add-zero (slotAt (slotOf s)))
+    ∙ sym (picked (packed l) (slotAt (slotOf s)) 36 (omega (arith, length-packed l)))
     ∙ packed-part l s h
 
-pub slot-lit : (l : Lighting) (s : ℕ) → s < 8 → ltb s (l .«light_count») ≡ true → picks (from (words (packed l)) (slotAt s)) 0 36 ≡ lightWords (lightAt l s)
+pub slot-lit : (l : Lighting) (s : ℕ) → s < 8 → ltb s (l .«light_count») ≡ true → picks (from (words (packed l)) (slotAt (slotOf s))) 0 36 ≡ lightWords (lightAt l (slotOf s))
 unfolding slotWords
 slot-lit l s h e = slot-of l s h ∙ rw e refl
 
-pub slot-unlit : (l : Lighting) (s : ℕ) → s < 8 → ltb s (l .«light_count») ≡ false → picks (from (words (packed l)) (slotAt s)) 0 36 ≡ replicate 36 0
+pub slot-unlit : (l : Lighting) (s : ℕ) → s < 8 → ltb s (l .«light_count») ≡ false → picks (from (words (packed l)) (slotAt (slotOf s))) 0 36 ≡ replicate 36 0
 unfolding slotWords
 slot-unlit l s h e = slot-of l s h ∙ rw e refl
 

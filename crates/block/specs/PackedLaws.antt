@@ -6,12 +6,14 @@ use native.Mathlib.Nat.{zero-add}
 use mathlib.Core.Path.{_≡_, refl, sym, ap, _∙_}
 use mathlib.Core.Bool.{Bool, true, false, cond}
 use mathlib.Core.List.{List, [], _∷_}
-use lib.Dec.{eqb, ltb, leb}
+use lib.Dec.{eqb, ltb, leb, T}
 use lib.ListN.{length, getD}
-use lib.Ieee.{Float, binary32}
+use lib.Ieee.{Float, binary32, fits}
 use lib.Ieee.Bits.{ofBits-toBits}
 use borrow.Author.Tests.{eq-eqb, ne-eqb, eqb-true, leb-true, ltb-false}
-use Rattle.binary32.specs.Words.{floatOf, wordOf}
+use Rattle.binary32.specs.Binary32.{floatOf, wordOf}
+use Rattle.vectors.specs.Vectors.{at}
+use Rattle.vectors.specs.Claims.{Vector}
 use Rattle.lighting.specs.declared.Lookup.{Lookup}
 use Rattle.lighting.specs.declared.OptionalLookup.{OptionalLookup}
 use Rattle.lighting.specs.declared.OptionalLookup.the-variants.{Missing, Present}
@@ -24,13 +26,11 @@ use Rattle.lighting.specs.declared.OptionalShadow.{OptionalShadow}
 use Rattle.lighting.specs.declared.OptionalShadow.the-variants.{Unshadowed, Shadowed}
 use Rattle.lighting.specs.declared.Light.{Light}
 use Rattle.lighting.specs.declared.Lighting.{Lighting}
-use Rattle.lighting.specs.Blank.{blankLight}
-use Rattle.vectors.specs.Vectors.{at}
-use Rattle.block.specs.Words.{bitOf, flagWord, bumpWord, shadowWord, presenceWord, inputWord, absoluteWord, scaleWord, lookupWords, vectorWords, headWords, biasWord, distanceScaleWord, isScaled, flagsWord, lightWords, lightAt, noLight, packed}
-use Rattle.block.specs.Formed.{words, from, slotAt, every, allZero, zeros, bitAt}
-use Rattle.block.specs.Reading.{blockBump, blockShadow, blockLookup, blockOptionalLookup, blockVector, blockDistance, blockLight, blockSlotLight, blockLights, blockLighting, on, blockReading}
-use Rattle.block.specs.Answers.{bumpUnit, shadowUnit, numbersFit, inRange}
-use Rattle.block.specs.Claims.{Single, Vector, DistanceHeld, LookupHeld, LightHeld, Held, BlankBeyond, PackedReads}
+use Rattle.lighting.specs.Forms.{every}
+use Rattle.lighting.specs.Lighting.{blankLight, isScaled, lightAt, noLight, bumpUnit, shadowUnit, numbersFit, inRange, on, slotOf}
+use Rattle.lighting.specs.Claims.{LightFits, DistanceFits, LookupFits, LightingFits}
+use Rattle.block.specs.Block.{bitOf, flagWord, bumpWord, shadowWord, lookupRow, lookupWords, vectorWords, headWords, distanceRow, flagsWord, lightWords, packed, words, from, slotAt, allZero, zeros, bitAt, blockBump, blockShadow, blockLookup, blockOptionalLookup, blockVector, blockDistance, blockLight, blockSlotLight, blockLights, blockLighting, blockReading, distanceWords}
+use Rattle.block.specs.Claims.{BlankBeyond, PackedReads}
 use Rattle.block.specs.TestLaws.{chain-first, chain-part, every-one}
 use Rattle.block.specs.FlagLaws.{flag-is, bit-small, bit-back, back, flags7, flag-0, flag-1, flag-2, flag-3, flag-4, flag-5, flag-6, needs-back}
 use Rattle.block.specs.ListLaws.{picks, slot-lit, count-of}
@@ -55,13 +55,13 @@ module _ (l : Lighting) (h : inRange l ≡ true) where
   pub range-count : l .«light_count» ≤ 8
   range-count = leb-true _ _ (parts 2)
 
-  pub range-number : (s : ℕ) → s < l .«light_count» → lightAt l s .number .0 ≤ 7
+  pub range-number : (s : ℕ) → s < l .«light_count» → lightAt l (slotOf s) .number .0 ≤ 7
   unfolding numbersFit
-  range-number s k = leb-true _ _ (every-one (l .«light_count») (λ j. leb (lightAt l j .number .0) 7) s (parts 3) k)
+  range-number s k = leb-true _ _ (every-one (l .«light_count») (λ j. leb (lightAt l (slotOf j) .number .0) 7) s (parts 3) k)
 
 -- floats and vectors
 
-pub float-back : (x : Float) → Single x → floatOf (wordOf x) ≡ x
+float-back : (x : Float) → T (fits binary32 x) → floatOf (wordOf x) ≡ x
 float-back x h = ofBits-toBits binary32 x h
 
 three : (v : List Float) → length v ≡ 3 → (at v 0 ∷ at v 1 ∷ at v 2 ∷ []) ≡ v
@@ -71,13 +71,13 @@ three (a ∷ b ∷ []) h = absurd (omega arith)
 three (a ∷ b ∷ c ∷ []) h = refl
 three (a ∷ b ∷ c ∷ d ∷ v) h = absurd (omega arith)
 
-pub vector-back : (v : List Float) → Vector v → (floatOf (wordOf (at v 0)) ∷ floatOf (wordOf (at v 1)) ∷ floatOf (wordOf (at v 2)) ∷ []) ≡ v
-vector-back v h = rw (float-back (at v 0) (h .first), float-back (at v 1) (h .second), float-back (at v 2) (h .third)) (three v (h .long))
+vector-back : (v : List Float) → Vector v → (floatOf (wordOf (at v 0)) ∷ floatOf (wordOf (at v 1)) ∷ floatOf (wordOf (at v 2)) ∷ []) ≡ v
+vector-back v h = rw (float-back (at v 0) (h .fit 0), float-back (at v 1) (h .fit 1), float-back (at v 2) (h .fit 2)) (three v (h .long))
 
 -- a light
 
-distance-back : (d : Distance) (f : Bool) → DistanceHeld d → f ≡ isScaled d → cond f (Scaled (floatOf (biasWord d)) (floatOf (distanceScaleWord d))) Without ≡ d
-unfolding isScaled biasWord distanceScaleWord
+distance-back : (d : Distance) (f : Bool) → DistanceFits d → f ≡ isScaled d → cond f (Scaled (floatOf (distanceRow d .0)) (floatOf (distanceRow d .1))) Without ≡ d
+unfolding isScaled distanceRow
 distance-back Without f h e = rw e refl
 distance-back (Scaled b s) f h e = rw (e, float-back b (h .0), float-back s (h .1)) refl
 
@@ -121,8 +121,8 @@ module _ (l : Light) where
   light-made s0 s1 d a p t s b0 b1 b2 b3 f b5 b6 e1 e2 e3 e4 e5 e6 e7 e8 e9 e10 e11 e12 e13 e14 =
       rw (e1, e2, e3, e4, e5, e6, e7, e8, e9, e10, e11, e12, e13, e14) refl
 
-  pub light-back : LightHeld l → blockLight (words (lightWords l)) ≡ l
-  unfolding blockLight lightWords vectorWords blockVector blockDistance
+  light-back : LightFits l → blockLight (words (lightWords l)) ≡ l
+  unfolding blockLight lightWords distanceWords vectorWords blockVector blockDistance
   light-back h =
       let a = l .directional in
       let b = l .«two_sided» in
@@ -153,14 +153,14 @@ light-listed : (v : ℕ → ℕ) (ws : List ℕ) → picks v 0 36 ≡ ws → blo
 unfolding blockLight blockVector blockDistance
 light-listed v ws e = ap (λ (l : List ℕ). blockLight (words l)) e
 
-slot-light : (l : Lighting) (s : ℕ) → Held l → BlankBeyond l → s < 8 → blockSlotLight (words (packed l)) s ≡ lightAt l s
+slot-light : (l : Lighting) (s : ℕ) → LightingFits l → BlankBeyond l → s < 8 → blockSlotLight (words (packed l)) (slotOf s) ≡ lightAt l (slotOf s)
 unfolding blockSlotLight
 slot-light l s h z k =
-    ap (λ (n : ℕ). cond (ltb s n) (blockLight (from (words (packed l)) (slotAt s))) blankLight) (count-of l)
+    ap (λ (n : ℕ). cond (ltb s n) (blockLight (from (words (packed l)) (slotAt (slotOf s)))) blankLight) (count-of l)
     ∙ go (ltb s (l .«light_count»)) refl
   where
-    go : (b : Bool) → ltb s (l .«light_count») ≡ b → cond b (blockLight (from (words (packed l)) (slotAt s))) blankLight ≡ lightAt l s
-    go true e = light-listed (from (words (packed l)) (slotAt s)) (lightWords (lightAt l s)) (slot-lit l s k e) ∙ light-back (lightAt l s) (h .lights s k)
+    go : (b : Bool) → ltb s (l .«light_count») ≡ b → cond b (blockLight (from (words (packed l)) (slotAt (slotOf s)))) blankLight ≡ lightAt l (slotOf s)
+    go true e = light-listed (from (words (packed l)) (slotAt (slotOf s))) (lightWords (lightAt l (slotOf s))) (slot-lit l s k e) ∙ light-back (lightAt l (slotOf s)) (h .lights s k)
     go false e = sym (z s k (ltb-false s (l .«light_count») e))
 
 eight : (v : List Light) → length v ≡ 8
@@ -176,7 +176,7 @@ eight (a ∷ b ∷ c ∷ d ∷ e ∷ f ∷ g ∷ []) h = absurd (omega arith)
 eight (a ∷ b ∷ c ∷ d ∷ e ∷ f ∷ g ∷ i ∷ []) h = refl
 eight (a ∷ b ∷ c ∷ d ∷ e ∷ f ∷ g ∷ i ∷ j ∷ v) h = absurd (omega arith)
 
-lights-back : (l : Lighting) → length (l .lights) ≡ 8 → Held l → BlankBeyond l → blockLights (words (packed l)) ≡ l .lights
+lights-back : (l : Lighting) → length (l .lights) ≡ 8 → LightingFits l → BlankBeyond l → blockLights (words (packed l)) ≡ l .lights
 unfolding blockLights lightAt
 lights-back l n h z =
     rw (slot-light l 0 h z (omega arith), slot-light l 1 h z (omega arith), slot-light l 2 h z (omega arith), slot-light l 3 h z (omega arith), slot-light l 4 h z (omega arith), slot-light l 5 h z (omega arith), slot-light l 6 h z (omega arith), slot-light l 7 h z (omega arith))
@@ -192,7 +192,7 @@ tangent-is : (n u : ℕ) → n % 16 ≡ 2 → n / 16 % 16 ≡ u → blockBump n 
 unfolding blockBump
 tangent-is n u p q = let d : n % 16 ≡ 1 → ⊥ = λ h. omega arith in simp (ne-eqb (n % 16) 1 d, eq-eqb (n % 16) 2 p, q)
 
-pub bump-back : (b : Bump) → bumpUnit b ≤ 3 → blockBump (bumpWord b) ≡ b
+bump-back : (b : Bump) → bumpUnit b ≤ 3 → blockBump (bumpWord b) ≡ b
 unfolding bumpWord bumpUnit blockBump
 bump-back Flat h = refl
 bump-back (Normal u r) h =
@@ -204,7 +204,7 @@ shadow-is : (n : ℕ) (s : Shadow) → n % 16 ≡ 1 → n / 16 % 16 ≡ s .unit 
 unfolding blockShadow
 shadow-is n s p q a b c d = rw (eq-eqb (n % 16) 1 p, q, a, b, c, d) refl
 
-pub shadow-back : (s : OptionalShadow) → shadowUnit s ≤ 3 → blockShadow (shadowWord s) ≡ s
+shadow-back : (s : OptionalShadow) → shadowUnit s ≤ 3 → blockShadow (shadowWord s) ≡ s
 unfolding shadowWord shadowUnit blockShadow
 shadow-back Unshadowed h = refl
 shadow-back (Shadowed s) h =
@@ -218,11 +218,11 @@ shadow-back (Shadowed s) h =
     (back (n / 1024 % 2) (s .secondary) (omega (arith, bit-small (s .invert), bit-small (s .primary), bit-small (s .secondary))))
     (back (n / 2048 % 2) (s .alpha) (omega (arith, bit-small (s .invert), bit-small (s .primary), bit-small (s .secondary), bit-small (s .alpha))))
 
-lookup-back : (l : Lookup) → Single (l .scale) → _≡_ {A = Lookup} (record { input = l .input; absolute = eqb (bitOf (l .absolute)) 1; scale = floatOf (wordOf (l .scale)) }) l
+lookup-back : (l : Lookup) → T (fits binary32 (l .scale)) → _≡_ {A = Lookup} (record { input = l .input; absolute = eqb (bitOf (l .absolute)) 1; scale = floatOf (wordOf (l .scale)) }) l
 lookup-back l h = rw (bit-back (l .absolute), float-back (l .scale) h) refl
 
-optional-back : (o : OptionalLookup) → LookupHeld o → cond (eqb (presenceWord o) 1) (Present (record { input = inputWord o; absolute = eqb (absoluteWord o) 1; scale = floatOf (scaleWord o) })) Missing ≡ o
-unfolding presenceWord inputWord absoluteWord scaleWord
+optional-back : (o : OptionalLookup) → LookupFits o → cond (eqb (lookupRow o .0) 1) (Present (record { input = lookupRow o .1; absolute = eqb (lookupRow o .2) 1; scale = floatOf (lookupRow o .3) })) Missing ≡ o
+unfolding lookupRow
 optional-back Missing h = refl
 optional-back (Present l) h = ap Present (lookup-back l h)
 
@@ -267,8 +267,8 @@ module _ (l : Lighting) where
   lighting-made ls a d0 d1 f r g u s b1 b2 b3 b4 b5 m h e1 e2 e3 e4 e5 e6 e7 e8 e9 e10 e11 e12 e13 e14 e15 e16 =
       rw (e1, e2, e3, e4, e5, e6, e7, e8, e9, e10, e11, e12, e13, e14, e15, e16) refl
 
-  pub lighting-back : length (l .lights) ≡ 8 → Held l → inRange l ≡ true → BlankBeyond l → blockLighting (words (packed l)) ≡ l
-  unfolding blockLighting packed headWords lookupWords vectorWords blockVector blockOptionalLookup blockLookup presenceWord inputWord absoluteWord scaleWord
+  lighting-back : length (l .lights) ≡ 8 → LightingFits l → inRange l ≡ true → BlankBeyond l → blockLighting (words (packed l)) ≡ l
+  unfolding blockLighting packed headWords lookupWords vectorWords blockVector blockOptionalLookup blockLookup lookupRow
   lighting-back n h i z =
       lighting-made _ _ _ _ _ _ _ _ _ _ _ _ _ _ _ _
       (lights-back l n h z)

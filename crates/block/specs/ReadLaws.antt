@@ -8,12 +8,11 @@ use mathlib.Core.List.{List, [], _∷_, _++_}
 use lib.Dec.{eqb, ltb, leb}
 use lib.ListN.{length, getD, replicate}
 use borrow.Author.Tests.{eqb-true, lt-ltb, ltb-true, ltb-false, leb-true, le-leb}
-use Rattle.binary32.specs.Words.{floatOf, wordOf}
+use Rattle.binary32.specs.Binary32.{floatOf, wordOf}
 use Rattle.lighting.specs.declared.Light.{Light}
-use Rattle.block.specs.Words.{bitOf, presenceWord, inputWord, absoluteWord, scaleWord, lookupWords, vectorWords, headWords, flagsWord, lightWords, lightAt, slotWords, slotsWords, packed}
-use Rattle.block.specs.Formed.{words, from, lookupAt, slotAt, every, zeros, allZero, bitAt, paddingZero, floatFormed, wellFormed}
-use Rattle.block.specs.Reading.{blockLookup, blockOptionalLookup, blockVector, blockLight, blockSlotLight, blockLights, blockLighting, blockReading}
-use Rattle.block.specs.Answers.{bumpUnit, shadowUnit, numbersFit, inRange, accepted, packedReading}
+use Rattle.lighting.specs.Forms.{every}
+use Rattle.lighting.specs.Lighting.{lightAt, bumpUnit, shadowUnit, numbersFit, inRange, slotOf}
+use Rattle.block.specs.Block.{bitOf, lookupRow, lookupWords, vectorWords, headWords, flagsWord, lightWords, slotWords, slotsWords, packed, words, from, lookupAt, slotAt, zeros, allZero, bitAt, paddingZero, floatFormed, wellFormed, blockLookup, blockOptionalLookup, blockVector, blockLight, blockSlotLight, blockLights, blockLighting, blockReading, accepted, packedReading, distanceWords}
 use Rattle.block.specs.Claims.{WordsHeld, ReadPacks, ReadAccepted}
 use Rattle.block.specs.TestLaws.{_also_, chain-first, chain-part, every-of}
 use Rattle.block.specs.FormedLaws.{Formed, formed-parts}
@@ -25,12 +24,12 @@ use Rattle.block.specs.WordLaws.{word-back, scale-back, bump-word-back, 
 
 -- a light's words
 
-pub record LightFormed (v : ℕ → ℕ) : Type 0 where
-  pub flags : ltb (v 32) 128 ≡ true
-  pub without : (bitAt (v 32) 16 || zeros v 28 2) ≡ true
-  pub number : ltb (v 33) 8 ≡ true
-  pub padding : paddingZero v ≡ true
-  pub floats : (j : ℕ) → j < 36 → floatFormed (v j) ≡ true
+record LightFormed (v : ℕ → ℕ) : Type 0 where
+  flags : ltb (v 32) 128 ≡ true
+  without : (bitAt (v 32) 16 || zeros v 28 2) ≡ true
+  number : ltb (v 33) 8 ≡ true
+  padding : paddingZero v ≡ true
+  floats : (j : ℕ) → j < 36 → floatFormed (v j) ≡ true
 
 padded : (v : ℕ → ℕ) → paddingZero v ≡ true → (0 ≡ v 3) × (0 ≡ v 7) × (0 ≡ v 11) × (0 ≡ v 15) × (0 ≡ v 19) × (0 ≡ v 23) × (0 ≡ v 27) × (0 ≡ v 30) × (0 ≡ v 31) × (0 ≡ v 34) × (0 ≡ v 35)
 unfolding paddingZero
@@ -60,8 +59,8 @@ flags-of v f k =
     let d = distance-words-back v (k 28) (k 29) (f .floats 28 (omega arith)) (f .floats 29 (omega arith)) (f .without) in
     flags-are _ ∙ flags-word-back v _ (f .flags) (d .2)
 
-pub light-words-back : (v : ℕ → ℕ) → WordsHeld v → LightFormed v → lightWords (blockLight v) ≡ picks v 0 36
-unfolding lightWords blockLight vectorWords blockVector
+light-words-back : (v : ℕ → ℕ) → WordsHeld v → LightFormed v → lightWords (blockLight v) ≡ picks v 0 36
+unfolding lightWords distanceWords blockLight vectorWords blockVector
 light-words-back v k f =
     let x : (j : ℕ) → j < 36 → wordOf (floatOf (v j)) ≡ v j = λ j h. word-back (v j) (k j) (f .floats j h) in
     let p = padded v (f .padding) in
@@ -78,7 +77,7 @@ light-words-back v k f =
 
 -- the head
 
-pub lookup-formed : (w : ℕ → ℕ) → Formed w → (k : ℕ) → k < 7 → LookupFormed (from w (lookupAt k))
+lookup-formed : (w : ℕ → ℕ) → Formed w → (k : ℕ) → k < 7 → LookupFormed (from w (lookupAt k))
 lookup-formed w f k h = record {
   presence = f .shape .presence k h;
   absolute = f .shape .absolute k h;
@@ -91,11 +90,11 @@ lookup-back w f k h = lookup-words-back (from w (lookupAt k)) (lookup-formed w f
 
 -- a lookup's four words before equal lists
 four : (v : ℕ → ℕ) {a b c d : ℕ} (xs ys : List ℕ) → LookupBack v (blockOptionalLookup v) → a ≡ v 0 → b ≡ v 1 → c ≡ v 2 → d ≡ v 3 → xs ≡ ys
-    → (presenceWord (blockOptionalLookup v) ∷ inputWord (blockOptionalLookup v) ∷ absoluteWord (blockOptionalLookup v) ∷ scaleWord (blockOptionalLookup v) ∷ xs) ≡ (a ∷ b ∷ c ∷ d ∷ ys)
+    → (lookupRow (blockOptionalLookup v) .0 ∷ lookupRow (blockOptionalLookup v) .1 ∷ lookupRow (blockOptionalLookup v) .2 ∷ lookupRow (blockOptionalLookup v) .3 ∷ xs) ≡ (a ∷ b ∷ c ∷ d ∷ ys)
 four v xs ys k p q r s e = one (k .presence ∙ sym p) (one (k .input ∙ sym q) (one (k .absolute ∙ sym r) (one (k .scale ∙ sym s) e)))
 
 head-words-back : (w : ℕ → ℕ) → WordsHeld w → Formed w → headWords (blockLighting w) ≡ picks w 0 40
-unfolding headWords blockLighting lookupWords presenceWord inputWord absoluteWord scaleWord vectorWords blockVector blockLookup
+unfolding headWords blockLighting lookupWords lookupRow vectorWords blockVector blockLookup
 head-words-back w k f =
     let x : (i : ℕ) → i < 328 → wordOf (floatOf (w i)) ≡ w i = λ i h. word-back (w i) (k i) (f .floats i h) in
     one refl (one refl (one (bump-word-back (w 2) (f .shape .bump)) (one (shadow-word-back (w 3) (f .shape .shadow))
@@ -115,7 +114,7 @@ head-words-back w k f =
 
 -- the slots
 
-pub light-formed : (w : ℕ → ℕ) → Formed w → (s : ℕ) → s < w 1 → LightFormed (from w (slotAt s))
+light-formed : (w : ℕ → ℕ) → Formed w → (s : ℕ) → s < w 1 → LightFormed (from w (slotAt (slotOf s)))
 light-formed w f s h =
     let c : w 1 ≤ 8 = leb-true (w 1) 8 (f .shape .few) in
     record {
@@ -123,10 +122,10 @@ light-formed w f s h =
       without = f .shape .without s h;
       number = f .shape .number s h;
       padding = f .shape .padding s h;
-      floats = λ j k. f .floats (slotAt s + j) (omega arith);
+      floats = λ j k. f .floats (slotAt (slotOf s) + j) (omega arith);
     }
 
-light-of-slot : (w : ℕ → ℕ) (s : ℕ) → s < 8 → lightAt (blockLighting w) s ≡ blockSlotLight w s
+light-of-slot : (w : ℕ → ℕ) (s : ℕ) → s < 8 → lightAt (blockLighting w) (slotOf s) ≡ blockSlotLight w (slotOf s)
 unfolding lightAt blockLighting blockLights
 light-of-slot w zero h = refl
 light-of-slot w (suc zero) h = refl
@@ -143,38 +142,38 @@ unfolding blockLighting
 count-is w = refl
 
 -- the light of a lit slot
-pub lit-light : (w : ℕ → ℕ) (s : ℕ) → s < 8 → ltb s (w 1) ≡ true → lightAt (blockLighting w) s ≡ blockLight (from w (slotAt s))
+pub lit-light : (w : ℕ → ℕ) (s : ℕ) → s < 8 → ltb s (w 1) ≡ true → lightAt (blockLighting w) (slotOf s) ≡ blockLight (from w (slotAt (slotOf s)))
 unfolding blockSlotLight
 lit-light w s h e = light-of-slot w s h ∙ rw e refl
 
-slot-words-back : (w : ℕ → ℕ) → WordsHeld w → Formed w → (s : ℕ) → s < 8 → slotWords (blockLighting w) s ≡ picks w (slotAt s) 36
+slot-words-back : (w : ℕ → ℕ) → WordsHeld w → Formed w → (s : ℕ) → s < 8 → slotWords (blockLighting w) (slotOf s) ≡ picks w (slotAt (slotOf s)) 36
 unfolding slotWords
 slot-words-back w k f s h =
-    ap (λ (n : ℕ). cond (ltb s n) (lightWords (lightAt (blockLighting w) s)) (replicate 36 0)) (count-is w)
+    ap (λ (n : ℕ). cond (ltb s n) (lightWords (lightAt (blockLighting w) (slotOf s))) (replicate 36 0)) (count-is w)
     ∙ go (ltb s (w 1)) refl
   where
-    go : (b : Bool) → ltb s (w 1) ≡ b → cond b (lightWords (lightAt (blockLighting w) s)) (replicate 36 0) ≡ picks w (slotAt s) 36
+    go : (b : Bool) → ltb s (w 1) ≡ b → cond b (lightWords (lightAt (blockLighting w) (slotOf s))) (replicate 36 0) ≡ picks w (slotAt (slotOf s)) 36
     go true e =
         ap lightWords (lit-light w s h e)
-        ∙ light-words-back (from w (slotAt s)) (λ j. k (slotAt s + j)) (light-formed w f s (ltb-true s (w 1) e))
-        ∙ picks-from w (slotAt s) 0 36
+        ∙ light-words-back (from w (slotAt (slotOf s))) (λ j. k (slotAt (slotOf s) + j)) (light-formed w f s (ltb-true s (w 1) e))
+        ∙ picks-from w (slotAt (slotOf s)) 0 36
         ∙ ap (λ (n : ℕ). picks w n 36) (omega arith)
     go false e =
         let c : w 1 ≤ s = ltb-false s (w 1) e in
-        sym (zero-picks w (slotAt s) 36 (λ j m. unused-zero w (f .shape) (slotAt s + j) (omega arith) (omega arith)))
+        sym (zero-picks w (slotAt (slotOf s)) 36 (λ j m. unused-zero w (f .shape) (slotAt (slotOf s) + j) (omega arith) (omega arith)))
 
 slots-words-back : (w : ℕ → ℕ) → WordsHeld w → Formed w → (n : ℕ) → n ≤ 8 → slotsWords (blockLighting w) n ≡ picks w 40 (36 * n)
 unfolding slotsWords
 slots-words-back w k f zero h = refl
 slots-words-back w k f (suc n) h =
     let m : 36 * n + 36 ≡ 36 * suc n = omega arith in
-    ap (λ (l : List ℕ). l ++ slotWords (blockLighting w) n) (slots-words-back w k f n (omega arith))
+    ap (λ (l : List ℕ). l ++ slotWords (blockLighting w) (slotOf n)) (slots-words-back w k f n (omega arith))
     ∙ ap (λ (l : List ℕ). picks w 40 (36 * n) ++ l) (slot-words-back w k f n (omega arith))
     ∙ picks-append w 40 (36 * n) 36
     ∙ ap (λ (j : ℕ). picks w 40 j) m
 
 -- over any words
-pub packed-back : (w : ℕ → ℕ) → WordsHeld w → wellFormed w ≡ true → packed (blockLighting w) ≡ picks w 0 328
+packed-back : (w : ℕ → ℕ) → WordsHeld w → wellFormed w ≡ true → packed (blockLighting w) ≡ picks w 0 328
 unfolding packed
 packed-back w k h =
     let f = formed-parts w h in
@@ -215,13 +214,13 @@ light-number : (v : ℕ → ℕ) → ltb (v 33) 8 ≡ true → leb (blockLight v
 unfolding blockLight
 light-number v h = let k : v 33 < 8 = ltb-true (v 33) 8 h in le-leb (v 33) 7 (omega arith)
 
-numbers-of : (w : ℕ → ℕ) → Formed w → every (w 1) (λ s. leb (lightAt (blockLighting w) s .number .0) 7) ≡ true
-numbers-of w f = every-of (w 1) (λ s. leb (lightAt (blockLighting w) s .number .0) 7) (λ s h. fits s h)
+numbers-of : (w : ℕ → ℕ) → Formed w → every (w 1) (λ s. leb (lightAt (blockLighting w) (slotOf s) .number .0) 7) ≡ true
+numbers-of w f = every-of (w 1) (λ s. leb (lightAt (blockLighting w) (slotOf s) .number .0) 7) (λ s h. fits s h)
   where
-    fits : (s : ℕ) → s < w 1 → leb (lightAt (blockLighting w) s .number .0) 7 ≡ true
+    fits : (s : ℕ) → s < w 1 → leb (lightAt (blockLighting w) (slotOf s) .number .0) 7 ≡ true
     fits s h =
         let c : w 1 ≤ 8 = leb-true (w 1) 8 (f .shape .few) in
-        ap (λ (l : Light). leb (l .number .0) 7) (lit-light w s (omega arith) (lt-ltb s (w 1) h)) ∙ light-number (from w (slotAt s)) (f .shape .number s h)
+        ap (λ (l : Light). leb (l .number .0) 7) (lit-light w s (omega arith) (lt-ltb s (w 1) h)) ∙ light-number (from w (slotAt (slotOf s))) (f .shape .number s h)
 
 pub range-back : (w : ℕ → ℕ) → Formed w → inRange (blockLighting w) ≡ true
 unfolding inRange numbersFit
@@ -230,7 +229,7 @@ range-back w f =
     also shadow-of w f
     also (ap (λ (n : ℕ). leb 1 n) (count-is w) ∙ f .shape .some)
     also (ap (λ (n : ℕ). leb n 8) (count-is w) ∙ f .shape .few)
-    also (ap (λ (n : ℕ). every n (λ s. leb (lightAt (blockLighting w) s .number .0) 7)) (count-is w) ∙ numbers-of w f)
+    also (ap (λ (n : ℕ). every n (λ s. leb (lightAt (blockLighting w) (slotOf s) .number .0) 7)) (count-is w) ∙ numbers-of w f)
 
 pub read-accepted : ReadAccepted
 unfolding accepted

@@ -6,7 +6,8 @@ use mathlib.Core.Path.{_≡_, refl, sym, ap, subst, _∙_}
 use mathlib.Core.Bool.{Bool, true, false}
 use lib.Dec.{ltb}
 use borrow.Author.Tests.{eqb-true, ltb-true, ltb-false, leb-true}
-use Rattle.block.specs.Formed.{lookupAt, slotAt}
+use Rattle.lighting.specs.Lighting.{slotOf}
+use Rattle.block.specs.Block.{lookupAt, slotAt}
 use Rattle.block.specs.FormedLaws.{Shaped}
 use Rattle.block.specs.WordLaws.{bump-small, shadow-small, scale-small}
 
@@ -39,17 +40,17 @@ module _ (w : ℕ → ℕ) (f : Shaped w) where
           let e : lookupAt ((i - 8) / 4) + (i - 8) % 4 ≡ i = omega arith in
           subst (λ (j : ℕ). w j ≤ 0x7F80_0000) e (lookup-small ((i - 8) / 4) ((i - 8) % 4) (omega arith) (omega arith))
 
-  pub unused-zero : (i : ℕ) → slotAt (w 1) ≤ i → i < 328 → w i ≡ 0
+  pub unused-zero : (i : ℕ) → slotAt (slotOf (w 1)) ≤ i → i < 328 → w i ≡ 0
   unused-zero i h k =
-      let e : slotAt (w 1) + (i - slotAt (w 1)) ≡ i = omega arith in
-      ap w (sym e) ∙ eqb-true (w (slotAt (w 1) + (i - slotAt (w 1)))) 0 (f .unused (i - slotAt (w 1)) (omega arith))
+      let e : slotAt (slotOf (w 1)) + (i - slotAt (slotOf (w 1))) ≡ i = omega arith in
+      ap w (sym e) ∙ eqb-true (w (slotAt (slotOf (w 1)) + (i - slotAt (slotOf (w 1))))) 0 (f .unused (i - slotAt (slotOf (w 1))) (omega arith))
 
   -- a test that small words pass holds of every word if it does from 36 to the end of the lit slots
-  pub passes : (p : ℕ → Bool) → ((n : ℕ) → n ≤ 0x7F80_0000 → p n ≡ true) → ((i : ℕ) → 36 ≤ i → i < slotAt (w 1) → p (w i) ≡ true)
+  pub passes : (p : ℕ → Bool) → ((n : ℕ) → n ≤ 0x7F80_0000 → p n ≡ true) → ((i : ℕ) → 36 ≤ i → i < slotAt (slotOf (w 1)) → p (w i) ≡ true)
       → (i : ℕ) → i < 328 → p (w i) ≡ true
-  passes p small lit i h = go (ltb i 36) (ltb i (slotAt (w 1))) refl refl
+  passes p small lit i h = go (ltb i 36) (ltb i (slotAt (slotOf (w 1)))) refl refl
     where
-      go : (a b : Bool) → ltb i 36 ≡ a → ltb i (slotAt (w 1)) ≡ b → p (w i) ≡ true
+      go : (a b : Bool) → ltb i 36 ≡ a → ltb i (slotAt (slotOf (w 1))) ≡ b → p (w i) ≡ true
       go true b d e = small (w i) (head-small i (ltb-true i 36 d))
-      go false true d e = lit i (ltb-false i 36 d) (ltb-true i (slotAt (w 1)) e)
-      go false false d e = ap p (unused-zero i (ltb-false i (slotAt (w 1)) e) h) ∙ small 0 (omega arith)
+      go false true d e = lit i (ltb-false i 36 d) (ltb-true i (slotAt (slotOf (w 1))) e)
+      go false false d e = ap p (unused-zero i (ltb-false i (slotAt (slotOf (w 1))) e) h) ∙ small 0 (omega arith)

@@ -10,7 +10,7 @@ use mathlib.Core.Logic.{_⊎_, inl, inr}
 use lib.Dec.{T, eqb}
 use lib.ListN.{getD}
 use borrow.Author.Tests.{eqb-true, eqb-false}
-use Rattle.block.specs.Formed.{every}
+use Rattle.lighting.specs.Forms.{every}
 
 -- what is false isn't true
 pub never : {X : Type 0} → false ≡ true → X
@@ -45,7 +45,7 @@ same-bool false true f g = g refl
 same-bool false false f g = refl
 
 -- a test and others, as `&&` joins them
-abbrev pub chain : Bool → List Bool → Bool
+abbrev chain : Bool → List Bool → Bool
 chain a [] = a
 chain a (b ∷ bs) = chain (a && b) bs
 

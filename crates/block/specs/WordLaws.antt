@@ -9,21 +9,34 @@ use mathlib.Core.List.{List, [], _∷_}
 use lib.Dec.{T, eqb, ltb, leb}
 use lib.Ieee.{binary32, nanBits, ofBits, toBits}
 use lib.Ieee.Bits.{toBits-ofBits, nanBits-is, nanBits-above}
-use borrow.Author.Tests.{eq-eqb, ne-eqb, le-ltb, ltb-true, leb-true, eqb-true, eqb-false}
-use Rattle.binary32.specs.Words.{floatOf, wordOf}
+use borrow.Author.Tests.{eq-eqb, ne-eqb, le-ltb, le-leb, ltb-true, leb-true, eqb-true, eqb-false}
+use Rattle.binary32.specs.Binary32.{floatOf, wordOf}
 use Rattle.lighting.specs.declared.OptionalLookup.{OptionalLookup}
 use Rattle.lighting.specs.declared.OptionalLookup.the-variants.{Missing, Present}
 use Rattle.lighting.specs.declared.Distance.the-variants.{Without, Scaled}
 use Rattle.lighting.specs.declared.Bump.the-variants.{Flat, Normal, Tangent}
 use Rattle.lighting.specs.declared.OptionalShadow.the-variants.{Unshadowed, Shadowed}
-use Rattle.block.specs.Words.{flagWord, bumpWord, shadowWord, presenceWord, inputWord, absoluteWord, scaleWord, biasWord, distanceScaleWord, isScaled}
-use Rattle.block.specs.Formed.{zeros, bitAt, bumpFormed, shadowFormed, scaleFormed, isNumber, floatFormed}
-use Rattle.block.specs.Reading.{blockBump, blockShadow, blockLookup, blockOptionalLookup, blockDistance}
-use Rattle.block.specs.Answers.{bumpUnit, shadowUnit}
-use Rattle.block.specs.TestLaws.{both-first, both-second, same-bool, chain-first, chain-part, or-cases, every-one}
+use Rattle.lighting.specs.Lighting.{isScaled, bumpUnit, shadowUnit}
+use Rattle.block.specs.Block.{flagWord, bumpWord, shadowWord, lookupRow, distanceRow, zeros, bitAt, bumpFormed, shadowFormed, scaleFormed, isNumber, floatFormed, blockBump, blockShadow, blockLookup, blockOptionalLookup, blockDistance}
+use Rattle.block.specs.TestLaws.{both-first, both-second, or-first, same-bool, chain-first, chain-part, or-cases, every-one}
 use Rattle.block.specs.FlagLaws.{flag-bit, small-bit}
 
 -- a float's word
+
+pub number-is : (n : ℕ) → n % 0x8000_0000 ≤ 0x7F80_0000 → isNumber n ≡ true
+unfolding isNumber
+number-is n h = le-leb (n % 0x8000_0000) 0x7F80_0000 h
+
+pub number-formed : (n : ℕ) → isNumber n ≡ true → floatFormed n ≡ true
+unfolding floatFormed
+number-formed n h = or-first (isNumber n) (eqb n 0x7FC0_0000) h
+
+-- a word too small for a NaN
+pub small-number : (n : ℕ) → n ≤ 0x7F80_0000 → isNumber n ≡ true
+small-number n h = number-is n (omega arith)
+
+pub small-formed : (n : ℕ) → n ≤ 0x7F80_0000 → floatFormed n ≡ true
+small-formed n h = number-formed n (small-number n h)
 
 nan-back : wordOf (floatOf 0x7FC0_0000) ≡ 0x7FC0_0000
 unfolding toBits ofBits
@@ -239,13 +252,13 @@ unfolding zeros
 zero-at v i n k h m = sym (eqb-true (v (i + k)) 0 (every-one n (λ j. eqb (v (i + j)) 0) k h m))
 
 pub record LookupBack (v : ℕ → ℕ) (o : OptionalLookup) : Type 0 where
-  pub presence : presenceWord o ≡ v 0
-  pub input : inputWord o ≡ v 1
-  pub absolute : absoluteWord o ≡ v 2
-  pub scale : scaleWord o ≡ v 3
+  pub presence : lookupRow o .0 ≡ v 0
+  pub input : lookupRow o .1 ≡ v 1
+  pub absolute : lookupRow o .2 ≡ v 2
+  pub scale : lookupRow o .3 ≡ v 3
 
 pub lookup-words-back : (v : ℕ → ℕ) → LookupFormed v → LookupBack v (blockOptionalLookup v)
-unfolding blockOptionalLookup blockLookup presenceWord inputWord absoluteWord scaleWord
+unfolding blockOptionalLookup blockLookup lookupRow
 lookup-words-back v f = go (eqb (v 0) 1) refl (f .missing)
   where
     go : (b : Bool) → eqb (v 0) 1 ≡ b → (b || zeros v 1 3) ≡ true → LookupBack v (cond b (Present (record { input = v 1; absolute = eqb (v 2) 1; scale = floatOf (v 3) })) Missing)
@@ -267,11 +280,11 @@ lookup-words-back v f = go (eqb (v 0) 1) refl (f .missing)
 
 -- a distance's words
 pub distance-words-back : (v : ℕ → ℕ) → v 28 < 2 ^ 32 → v 29 < 2 ^ 32 → floatFormed (v 28) ≡ true → floatFormed (v 29) ≡ true → (bitAt (v 32) 16 || zeros v 28 2) ≡ true
-    → (biasWord (blockDistance v) ≡ v 28) × (distanceScaleWord (blockDistance v) ≡ v 29) × (isScaled (blockDistance v) ≡ bitAt (v 32) 16)
-unfolding blockDistance biasWord distanceScaleWord isScaled
+    → (distanceRow (blockDistance v) .0 ≡ v 28) × (distanceRow (blockDistance v) .1 ≡ v 29) × (isScaled (blockDistance v) ≡ bitAt (v 32) 16)
+unfolding blockDistance distanceRow isScaled
 distance-words-back v p q f g h = go (bitAt (v 32) 16) h
   where
     go : (b : Bool) → (b || zeros v 28 2) ≡ true
-        → (biasWord (cond b (Scaled (floatOf (v 28)) (floatOf (v 29))) Without) ≡ v 28) × (distanceScaleWord (cond b (Scaled (floatOf (v 28)) (floatOf (v 29))) Without) ≡ v 29) × (isScaled (cond b (Scaled (floatOf (v 28)) (floatOf (v 29))) Without) ≡ b)
+        → (distanceRow (cond b (Scaled (floatOf (v 28)) (floatOf (v 29))) Without) .0 ≡ v 28) × (distanceRow (cond b (Scaled (floatOf (v 28)) (floatOf (v 29))) Without) .1 ≡ v 29) × (isScaled (cond b (Scaled (floatOf (v 28)) (floatOf (v 29))) Without) ≡ b)
     go true m = (word-back (v 28) p f, word-back (v 29) q g, refl)
     go false m = (zero-at v 28 2 0 m (omega arith), zero-at v 28 2 1 m (omega arith), refl)

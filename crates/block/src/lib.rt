@@ -1,14 +1,13 @@
-// The block of a lighting: its words, which blocks are well formed, and what a block reads as. This crate has the definitions and
-// their laws (specs/), the two answers, and what packing, the check and shading ask of a part; the other functions are in packing, block_check and block_reading.
-use lighting::Bump;
-use lighting::Distance;
+// The block of a lighting: its words, which blocks are well formed, and what a block reads as. The definitions are specs/Block.antt, and their laws stand
+// beside it. Here are the answers of the check and of the reader, and what packing, the check, the reader and shading ask of a part.
+pub mod accepted;
+
 use lighting::OptionalLighting;
-use lighting::OptionalShadow;
+use lighting::Slot;
 use refusals::Outcome;
 ghost use mathlib.Core.Path.{_≡_};
-ghost use Rattle.block.specs.Words.{isScaled};
-ghost use Rattle.block.specs.Formed.{scaleFormed};
-ghost use Rattle.block.specs.Answers.{bumpUnit, shadowUnit};
+ghost use Prim.Native.Nat.{_<_};
+ghost use Rattle.block.specs.Block.{slotAt, scaleFormed};
 
 // What a block's words are. In a NanFree block no word is a NaN's pattern.
 pub enum BlockForm {
@@ -24,40 +23,18 @@ pub struct BlockRead {
     pub reading: OptionalLighting,
 }
 
+// Where a slot's words begin.
+// Asks: one of the eight slots, since the place of a far one would not fit.
+pub fn slot_at(slot: Slot) -> usize
+    requires { ⌜ slot .0 < 8 ⌝ }
+    ensures { λ r. ⌜ r ≡ slotAt slot ⌝ }
+{
+    40 + 36 * slot.0
+}
+
 // Whether it is the word of a scale code's float: 0, or a power of 2 from 0.25 to 8.
 pub fn scale_formed(n: u32) -> bool
     ensures { λ r. ⌜ r ≡ scaleFormed n ⌝ }
 {
     (n == 0) | ((n % 0x80_0000 == 0) & (125 <= n / 0x80_0000) & (n / 0x80_0000 <= 130))
-}
-
-// The texture unit that perturbs the surface, 0 where there is none.
-pub fn bump_unit(bump: Bump) -> usize
-    ensures { λ r. ⌜ r ≡ bumpUnit bump ⌝ }
-{
-    match bump {
-        Bump::Flat => 0,
-        Bump::Normal(unit, _) => unit,
-        Bump::Tangent(unit) => unit,
-    }
-}
-
-// The texture unit that holds the shadow, 0 where there is none.
-pub fn shadow_unit(shadow: OptionalShadow) -> usize
-    ensures { λ r. ⌜ r ≡ shadowUnit shadow ⌝ }
-{
-    match shadow {
-        OptionalShadow::Unshadowed => 0,
-        OptionalShadow::Shadowed(s) => s.unit,
-    }
-}
-
-// Whether a light has a distance table.
-pub fn is_scaled(distance: Distance) -> bool
-    ensures { λ r. ⌜ r ≡ isScaled distance ⌝ }
-{
-    match distance {
-        Distance::Without => false,
-        Distance::Scaled(_, _) => true,
-    }
 }

@@ -1,12 +1,13 @@
 // Decoding with packing, and the check of a block, under plain names, for the host's comparisons: a library for tests alone.
 // Each call returns document 01's number, 0 where it is done and 100 where the lighting is off.
 ghost use mathlib.Core.Path.{_≡_};
-ghost use Rattle.block.specs.Answers.{packing as packingAs};
+ghost use Rattle.block.specs.Block.{packing as packingAs};
 ghost use Rattle.block_abi.specs.PackFile.{packReading, packFile};
 ghost use Rattle.block_abi.specs.FormNumber.{formNumber};
 use block::BlockForm;
 use lighting::OptionalLighting;
 
+// The block of a reading, or 100.
 fn pack_reading(reading: OptionalLighting, words: &mut [u32]) -> u32
     ensures { λ r. ⌜ packingAs r (now (words .exit)) ≡ packReading reading (now (words .entry)) ⌝ }
 {

@@ -1,38 +1,28 @@
 -- The form of a block's words, by the tests of the check: each answer from the tests that lead to it. A block of the right shape can hold
 -- a NaN only from word 36 to the end of the lit slots. Assumes nothing.
-use Prim.Native.Nat.{ℕ, _+_, _-_, _*_, _%_, _<_, _≤_}
+use Prim.Native.Nat.{ℕ, _+_, _-_, _*_, _<_, _≤_}
 use native.Mathlib.Omega.{arith}
 use mathlib.Core.Path.{_≡_, refl, sym, ap, subst, _∙_}
 use mathlib.Core.Bool.{Bool, true, false, cond}
-use lib.Dec.{leb, eqb}
+use lib.Dec.{leb}
 use borrow.Author.Tests.{le-leb, lt-leb}
+use Rattle.lighting.specs.Forms.{every}
+use Rattle.lighting.specs.Lighting.{slotOf}
 use Rattle.block.specs.declared.BlockForm.the-variants.{Off, NotWellFormed, NanFree, WithNan}
-use Rattle.block.specs.Formed.{slotAt, every, zeros, allZero, isNumber, floatFormed, wellFormed}
-use Rattle.block.specs.Answers.{nanFree, formOf}
-use Rattle.block.specs.TestLaws.{or-first, every-one, every-of}
+use Rattle.block.specs.Block.{slotAt, zeros, allZero, isNumber, floatFormed, wellFormed}
+use Rattle.block.specs.Steps.{nanFree, formOf}
+use Rattle.block.specs.TestLaws.{every-one, every-of}
 use Rattle.block.specs.FormedLaws.{Shaped, formed-parts, formed-made}
 use Rattle.block.specs.SmallLaws.{passes}
 use Rattle.block.specs.PackedLaws.{not-all-zero}
-use Rattle.block_check.specs.Head.{headFormed}
-use Rattle.block_check.specs.Lit.{lightsFormed}
-use Rattle.block_check.specs.Floats.{floatsForm}
+use Rattle.block.specs.WordLaws.{number-formed, small-number, small-formed}
+use Rattle.block_check.specs.Steps.{headFormed, lightsFormed, floatsForm}
 use Rattle.block_check.proofs.Shape.{lights-of-shape, head-of-shape, unused-of-shape, shape-made}
 
 -- what must hold and doesn't
 fails : (a b : Bool) → (a ≡ true → b ≡ true) → b ≡ false → a ≡ false
 fails true b f e = sym (f refl) ∙ e
 fails false b f e = refl
-
-number-small : (n : ℕ) → n ≤ 0x7F80_0000 → isNumber n ≡ true
-unfolding isNumber
-number-small n h = le-leb (n % 0x8000_0000) 0x7F80_0000 (omega arith)
-
-number-formed : (n : ℕ) → isNumber n ≡ true → floatFormed n ≡ true
-unfolding floatFormed
-number-formed n h = or-first (isNumber n) (eqb n 0x7FC0_0000) h
-
-float-small : (n : ℕ) → n ≤ 0x7F80_0000 → floatFormed n ≡ true
-float-small n h = number-formed n (number-small n h)
 
 module _ (w : ℕ → ℕ) where
   no-form : allZero w ≡ false → wellFormed w ≡ false → formOf w ≡ NotWellFormed
@@ -70,13 +60,13 @@ module _ (w : ℕ → ℕ) where
       no-form (some-word n) (fails (wellFormed w) (leb (w 1) 8) (λ f. formed-parts w f .shape .few) (lt-leb (w 1) 8 h))
 
   module _ (some : w 1 ≡ 0 → ⊥) (few : w 1 ≤ 8) where
-    lit : 328 - slotAt (w 1) ≡ 36 * (8 - w 1)
+    lit : 328 - slotAt (slotOf (w 1)) ≡ 36 * (8 - w 1)
     lit = omega arith
 
-    pub unused-words : zeros w (slotAt (w 1)) (36 * (8 - w 1)) ≡ false → formOf w ≡ NotWellFormed
+    pub unused-words : zeros w (slotAt (slotOf (w 1))) (36 * (8 - w 1)) ≡ false → formOf w ≡ NotWellFormed
     unused-words z =
         no-form (some-word some)
-        (fails (wellFormed w) (zeros w (slotAt (w 1)) (328 - slotAt (w 1))) (λ f. unused-of-shape w (formed-parts w f .shape)) (ap (λ (n : ℕ). zeros w (slotAt (w 1)) n) lit ∙ z))
+        (fails (wellFormed w) (zeros w (slotAt (slotOf (w 1))) (328 - slotAt (slotOf (w 1)))) (λ f. unused-of-shape w (formed-parts w f .shape)) (ap (λ (n : ℕ). zeros w (slotAt (slotOf (w 1))) n) lit ∙ z))
 
     pub bad-head : headFormed w ≡ false → formOf w ≡ NotWellFormed
     bad-head z = no-form (some-word some) (fails (wellFormed w) (headFormed w) (λ f. head-of-shape w (formed-parts w f .shape)) z)
@@ -84,14 +74,14 @@ module _ (w : ℕ → ℕ) where
     pub bad-lights : lightsFormed w (w 1) ≡ false → formOf w ≡ NotWellFormed
     bad-lights z = no-form (some-word some) (fails (wellFormed w) (lightsFormed w (w 1)) (λ f. lights-of-shape w (formed-parts w f .shape)) z)
 
-    module _ (unused : zeros w (slotAt (w 1)) (36 * (8 - w 1)) ≡ true) (head : headFormed w ≡ true) (lights : lightsFormed w (w 1) ≡ true) where
+    module _ (unused : zeros w (slotAt (slotOf (w 1))) (36 * (8 - w 1)) ≡ true) (head : headFormed w ≡ true) (lights : lightsFormed w (w 1) ≡ true) where
       shape : Shaped w
       shape =
           shape-made w (le-leb 1 (w 1) (omega arith)) (le-leb (w 1) 8 few)
-          (ap (λ (n : ℕ). zeros w (slotAt (w 1)) n) lit ∙ unused) head lights
+          (ap (λ (n : ℕ). zeros w (slotAt (slotOf (w 1))) n) lit ∙ unused) head lights
 
       -- a test of the words from 36 to the end of the lit slots
-      ranged : (p : ℕ → Bool) → every (4 + 36 * w 1) (λ k. p (w (36 + k))) ≡ true → (i : ℕ) → 36 ≤ i → i < slotAt (w 1) → p (w i) ≡ true
+      ranged : (p : ℕ → Bool) → every (4 + 36 * w 1) (λ k. p (w (36 + k))) ≡ true → (i : ℕ) → 36 ≤ i → i < slotAt (slotOf (w 1)) → p (w i) ≡ true
       ranged p h i low high =
           let e : 36 + (i - 36) ≡ i = omega arith in
           subst (λ (j : ℕ). p (w j) ≡ true) e (every-one (4 + 36 * w 1) (λ k. p (w (36 + k))) (i - 36) h (omega arith))
@@ -100,10 +90,10 @@ module _ (w : ℕ → ℕ) where
       widened p h = every-of (4 + 36 * w 1) (λ k. p (w (36 + k))) (λ k m. every-one 328 (λ i. p (w i)) (36 + k) h (omega arith))
 
       formed : every (4 + 36 * w 1) (λ k. floatFormed (w (36 + k))) ≡ true → wellFormed w ≡ true
-      formed h = formed-made w (record { shape = shape; floats = passes w shape floatFormed float-small (ranged floatFormed h) })
+      formed h = formed-made w (record { shape = shape; floats = passes w shape floatFormed small-formed (ranged floatFormed h) })
 
       numbers : every (4 + 36 * w 1) (λ k. isNumber (w (36 + k))) ≡ true → every 328 (λ i. isNumber (w i)) ≡ true
-      numbers h = every-of 328 (λ i. isNumber (w i)) (passes w shape isNumber number-small (ranged isNumber h))
+      numbers h = every-of 328 (λ i. isNumber (w i)) (passes w shape isNumber small-number (ranged isNumber h))
 
       no-nan : every (4 + 36 * w 1) (λ k. isNumber (w (36 + k))) ≡ true → formOf w ≡ NanFree
       unfolding nanFree

@@ -1,3 +1,3 @@
 mod Shape
 mod Forms
-mod Answers
+mod FormByTests

@@ -8,12 +8,12 @@ use mathlib.Core.List.{List, [], _∷_}
 use lib.Dec.{ltb, leb, eqb}
 use lib.ListN.{getD}
 use borrow.Author.Tests.{ltb-true}
-use Rattle.block.specs.Formed.{from, lookupAt, slotAt, every, zeros, bitAt, bumpFormed, shadowFormed, scaleFormed, paddingZero}
+use Rattle.lighting.specs.Forms.{every}
+use Rattle.lighting.specs.Lighting.{slotOf}
+use Rattle.block.specs.Block.{from, lookupAt, slotAt, zeros, bitAt, bumpFormed, shadowFormed, scaleFormed, paddingZero}
 use Rattle.block.specs.TestLaws.{both-first, both-second, _also_, chain-first, chain-part, every-one, every-of}
 use Rattle.block.specs.FormedLaws.{Shaped}
-use Rattle.block_check.specs.Settings.{settingsFormed}
-use Rattle.block_check.specs.Head.{lookupFormed, lookupsFormed, headFormed}
-use Rattle.block_check.specs.Lit.{vectorsPadded, lightPadded, lightFormed, lightsFormed}
+use Rattle.block_check.specs.Steps.{optionsFormed, lookupFormed, lookupsFormed, headFormed, vectorsPadded, lightPadded, lightFormed, lightsFormed}
 
 -- a lookup
 
@@ -87,16 +87,16 @@ light-parts v h =
 -- the parts of a block
 
 module _ (w : ℕ → ℕ) where
-  abbrev settings : List Bool
-  settings = bumpFormed (w 2) ∷ shadowFormed (w 3) ∷ ltb (w 4) 2 ∷ ltb (w 5) 2 ∷ ltb (w 6) 2 ∷ ltb (w 7) 4 ∷ not (eqb (w 7) 1) ∷ []
+  abbrev options : List Bool
+  options = bumpFormed (w 2) ∷ shadowFormed (w 3) ∷ ltb (w 4) 2 ∷ ltb (w 5) 2 ∷ ltb (w 6) 2 ∷ ltb (w 7) 4 ∷ not (eqb (w 7) 1) ∷ []
 
   pub lights-of-shape : Shaped w → lightsFormed w (w 1) ≡ true
   unfolding lightsFormed
-  lights-of-shape f = every-of (w 1) (λ s. lightFormed (from w (slotAt s))) (λ s h. light-is (from w (slotAt s)) (f .padding s h) (f .flags s h) (f .number s h) (f .without s h))
+  lights-of-shape f = every-of (w 1) (λ s. lightFormed (from w (slotAt (slotOf s)))) (λ s h. light-is (from w (slotAt (slotOf s))) (f .padding s h) (f .flags s h) (f .number s h) (f .without s h))
 
-  settings-of-shape : Shaped w → settingsFormed w ≡ true
-  unfolding settingsFormed
-  settings-of-shape f =
+  options-of-shape : Shaped w → optionsFormed w ≡ true
+  unfolding optionsFormed
+  options-of-shape f =
       f .config
       also f .bump
       also f .shadow
@@ -114,26 +114,26 @@ module _ (w : ℕ → ℕ) where
 
   pub head-of-shape : Shaped w → headFormed w ≡ true
   unfolding headFormed
-  head-of-shape f = settings-of-shape f also lookups-of-shape f also f .spotlight also f .head-padding
+  head-of-shape f = options-of-shape f also lookups-of-shape f also f .spotlight also f .head-padding
 
-  pub unused-of-shape : Shaped w → zeros w (slotAt (w 1)) (328 - slotAt (w 1)) ≡ true
+  pub unused-of-shape : Shaped w → zeros w (slotAt (slotOf (w 1))) (328 - slotAt (slotOf (w 1))) ≡ true
   unfolding zeros
-  unused-of-shape f = every-of (328 - slotAt (w 1)) (λ k. eqb (w (slotAt (w 1) + k)) 0) (f .unused)
+  unused-of-shape f = every-of (328 - slotAt (slotOf (w 1))) (λ k. eqb (w (slotAt (slotOf (w 1)) + k)) 0) (f .unused)
 
-  pub shape-made : leb 1 (w 1) ≡ true → leb (w 1) 8 ≡ true → zeros w (slotAt (w 1)) (328 - slotAt (w 1)) ≡ true → headFormed w ≡ true → lightsFormed w (w 1) ≡ true → Shaped w
-  unfolding headFormed settingsFormed lookupsFormed lightsFormed zeros
+  pub shape-made : leb 1 (w 1) ≡ true → leb (w 1) 8 ≡ true → zeros w (slotAt (slotOf (w 1))) (328 - slotAt (slotOf (w 1))) ≡ true → headFormed w ≡ true → lightsFormed w (w 1) ≡ true → Shaped w
+  unfolding headFormed optionsFormed lookupsFormed lightsFormed zeros
   shape-made some few unused head lights =
       let hs : List Bool = every 7 (λ k. lookupFormed (from w (lookupAt k))) ∷ eqb (w 32) 1 ∷ eqb (w 39) 0 ∷ [] in
-      let s : settingsFormed w ≡ true = chain-first (settingsFormed w) hs head in
-      let c : (i : ℕ) → getD settings i true ≡ true = chain-part (ltb (w 0) 16) settings s in
+      let s : optionsFormed w ≡ true = chain-first (optionsFormed w) hs head in
+      let c : (i : ℕ) → getD options i true ≡ true = chain-part (ltb (w 0) 16) options s in
       let look : (k : ℕ) → k < 7 → Lookup (from w (lookupAt k)) =
-      λ k h. lookup-parts (from w (lookupAt k)) (every-one 7 (λ j. lookupFormed (from w (lookupAt j))) k (chain-part (settingsFormed w) hs head 0) h) in
-      let lit : (k : ℕ) → k < w 1 → Light (from w (slotAt k)) =
-      λ k h. light-parts (from w (slotAt k)) (every-one (w 1) (λ j. lightFormed (from w (slotAt j))) k lights h) in
+      λ k h. lookup-parts (from w (lookupAt k)) (every-one 7 (λ j. lookupFormed (from w (lookupAt j))) k (chain-part (optionsFormed w) hs head 0) h) in
+      let lit : (k : ℕ) → k < w 1 → Light (from w (slotAt (slotOf k))) =
+      λ k h. light-parts (from w (slotAt (slotOf k))) (every-one (w 1) (λ j. lightFormed (from w (slotAt (slotOf j)))) k lights h) in
       record {
         some = some;
         few = few;
-        config = chain-first (ltb (w 0) 16) settings s;
+        config = chain-first (ltb (w 0) 16) options s;
         bump = c 0;
         shadow = c 1;
         presence = λ k h. look k h .presence;
@@ -145,12 +145,12 @@ module _ (w : ℕ → ℕ) where
         needs = c 5;
         flags = λ k h. lit k h .flags;
         half-view = half-view (w 7) (ltb-true (w 7) 4 (c 5)) ∙ c 6;
-        spotlight = chain-part (settingsFormed w) hs head 1;
+        spotlight = chain-part (optionsFormed w) hs head 1;
         scale = λ k h. look k h .scale;
         missing = λ k h. look k h .missing;
         without = λ k h. lit k h .without;
         number = λ k h. lit k h .number;
-        head-padding = chain-part (settingsFormed w) hs head 2;
+        head-padding = chain-part (optionsFormed w) hs head 2;
         padding = λ k h. lit k h .padding;
-        unused = λ k h. every-one (328 - slotAt (w 1)) (λ j. eqb (w (slotAt (w 1) + j)) 0) k unused h;
+        unused = λ k h. every-one (328 - slotAt (slotOf (w 1))) (λ j. eqb (w (slotAt (slotOf (w 1)) + j)) 0) k unused h;
       }

@@ -1,5 +1,2 @@
 pub mod ZerosLaws
-pub mod Settings
-pub mod Head
-pub mod Lit
-pub mod Floats
+pub mod Steps

@@ -8,7 +8,8 @@ use mathlib.Core.Bool.{Bool, true, false, _&&_, and-true, and-assoc}
 use lib.Bits.{bitOr, or-add-and, and-le-r, or-zero-l}
 use lib.Dec.{eqb}
 use borrow.Author.Tests.{eqb-true, eqb-false, ne-eqb}
-use Rattle.block.specs.Formed.{every, zeros}
+use Rattle.lighting.specs.Forms.{every}
+use Rattle.block.specs.Block.{zeros}
 
 pub or-more : (n x : ℕ) (a p : Bool) → eqb n 0 ≡ a → eqb x 0 ≡ p → eqb (bitOr n x) 0 ≡ (a && p)
 or-more n x true p e q = ap (λ (k : ℕ). eqb (bitOr k x) 0) (eqb-true n 0 e) ∙ ap (λ (k : ℕ). eqb k 0) (or-zero-l x) ∙ q

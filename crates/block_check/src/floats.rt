@@ -5,9 +5,10 @@ ghost use mathlib.Core.Path.{_≡_};
 ghost use Prim.Native.Nat.{_+_, _≤_};
 ghost use lib.Dec.{eqb};
 ghost use lib.ListN.{length};
-ghost use Rattle.sources.specs.Sources.{given};
-ghost use Rattle.block.specs.Formed.{words, every, isNumber, floatFormed};
-ghost use Rattle.block_check.specs.Floats.{floatsForm};
+ghost use Rattle.sources.specs.Steps.{given};
+ghost use Rattle.block.specs.Block.{words, isNumber, floatFormed};
+ghost use Rattle.lighting.specs.Forms.{every};
+ghost use Rattle.block_check.specs.Steps.{floatsForm};
 
 fn nan_bit(n: u32) -> u32
     ensures { λ r. ⌜ (eqb r 0 ≡ isNumber n) × (r ≤ 1) ⌝ }

@@ -1,14 +1,14 @@
-// The head of a block: its settings, its seven lookups, and its padding.
-use crate::options::settings_formed;
+// The head of a block: its options, its seven lookups, and its padding.
+use crate::options::options_formed;
 use crate::zeros::are_zero;
 use block::scale_formed;
 use sources::word;
 ghost use mathlib.Core.Path.{_≡_};
 ghost use Prim.Native.Nat.{_+_, _≤_};
 ghost use lib.ListN.{length};
-ghost use Rattle.sources.specs.Sources.{given};
-ghost use Rattle.block.specs.Formed.{words, from as fromOf};
-ghost use Rattle.block_check.specs.Head.{lookupFormed, lookupsFormed, headFormed};
+ghost use Rattle.sources.specs.Steps.{given};
+ghost use Rattle.block.specs.Block.{words, from as fromOf};
+ghost use Rattle.block_check.specs.Steps.{lookupFormed, lookupsFormed, headFormed};
 
 // A lookup by each of its four words.
 fn present_formed(block: &[u32], bytes: &[u8], at: usize) -> bool
@@ -55,7 +55,7 @@ pub(crate) fn head_formed(block: &[u32], bytes: &[u8]) -> bool
     requires { ⌜ length (given (now block) (now bytes)) ≡ 328 ⌝ }
     ensures { λ r. ⌜ r ≡ headFormed (words (given (now (block .entry)) (now (bytes .entry)))) ⌝ }
 {
-    settings_formed(block, bytes)
+    options_formed(block, bytes)
         & lookups_formed(block, bytes)
         & (word(block, bytes, 32) == 1)
         & (word(block, bytes, 39) == 0)

@@ -1,5 +1,5 @@
 // What a block's words are: the check that runs at each call of the block shader. It goes over the words once, part by part, with no branch
-// for a word. The words come as words or as bytes.
+// for a word. The words come as words or as bytes. `zeros` has the words that must be zero, `options` and `head` the first 40, `lights` the lit slots, `floats` the NaNs.
 mod floats;
 mod head;
 mod lights;
@@ -16,9 +16,9 @@ use sources::word;
 ghost use mathlib.Core.Path.{_≡_};
 ghost use Prim.Native.Nat.{_≤_};
 ghost use lib.ListN.{length};
-ghost use Rattle.sources.specs.Sources.{given};
-ghost use Rattle.block.specs.Formed.{words};
-ghost use Rattle.block.specs.Answers.{formOf, blockForm};
+ghost use Rattle.sources.specs.Steps.{given};
+ghost use Rattle.block.specs.Block.{words};
+ghost use Rattle.block.specs.Steps.{formOf, blockForm};
 
 // A block of another length is not well formed.
 pub fn form(block: &[u32], bytes: &[u8]) -> BlockForm

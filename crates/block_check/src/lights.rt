@@ -1,11 +1,13 @@
 // The lit slots of a block: each light's padding, flags, number, and the words of a missing distance.
+use block::slot_at;
+use lighting::Slot;
 use sources::word;
 ghost use mathlib.Core.Path.{_≡_};
 ghost use Prim.Native.Nat.{_+_, _≤_};
 ghost use lib.ListN.{length};
-ghost use Rattle.sources.specs.Sources.{given};
-ghost use Rattle.block.specs.Formed.{words, from as fromOf};
-ghost use Rattle.block_check.specs.Lit.{vectorsPadded, lightPadded, lightFormed, lightsFormed};
+ghost use Rattle.sources.specs.Steps.{given};
+ghost use Rattle.block.specs.Block.{words, from as fromOf};
+ghost use Rattle.block_check.specs.Steps.{vectorsPadded, lightPadded, lightFormed, lightsFormed};
 
 // Whether the fourth word of each of a light's vectors is zero.
 fn vectors_padded(block: &[u32], bytes: &[u8], at: usize) -> bool
@@ -47,12 +49,12 @@ pub(crate) fn lights_formed(block: &[u32], bytes: &[u8], count: usize) -> bool
     requires { ⌜ (length (given (now block) (now bytes)) ≡ 328) × (count ≤ 8) ⌝ }
     ensures { λ r. ⌜ r ≡ lightsFormed (words (given (now (block .entry)) (now (bytes .entry)))) count ⌝ }
 {
-    let mut s = 0;
-    while s < count {
-        if !light_formed(block, bytes, 40 + 36 * s) {
+    let mut slot = Slot(0);
+    while slot.0 < count {
+        if !light_formed(block, bytes, slot_at(slot)) {
             return false;
         }
-        s += 1;
+        slot.0 += 1;
     }
     true
 }

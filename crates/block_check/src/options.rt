@@ -2,9 +2,9 @@
 use sources::word;
 ghost use mathlib.Core.Path.{_≡_};
 ghost use lib.ListN.{length};
-ghost use Rattle.sources.specs.Sources.{given};
-ghost use Rattle.block.specs.Formed.{words, bumpFormed, shadowFormed};
-ghost use Rattle.block_check.specs.Settings.{settingsFormed};
+ghost use Rattle.sources.specs.Steps.{given};
+ghost use Rattle.block.specs.Block.{words, bumpFormed, shadowFormed};
+ghost use Rattle.block_check.specs.Steps.{optionsFormed};
 
 fn bump_formed(n: u32) -> bool
     ensures { λ r. ⌜ r ≡ bumpFormed n ⌝ }
@@ -18,9 +18,9 @@ fn shadow_formed(n: u32) -> bool
     (n == 0) | ((n % 16 == 1) & (n / 16 % 16 < 4) & (n < 4096))
 }
 
-pub(crate) fn settings_formed(block: &[u32], bytes: &[u8]) -> bool
+pub(crate) fn options_formed(block: &[u32], bytes: &[u8]) -> bool
     requires { ⌜ length (given (now block) (now bytes)) ≡ 328 ⌝ }
-    ensures { λ r. ⌜ r ≡ settingsFormed (words (given (now (block .entry)) (now (bytes .entry)))) ⌝ }
+    ensures { λ r. ⌜ r ≡ optionsFormed (words (given (now (block .entry)) (now (bytes .entry)))) ⌝ }
 {
     (word(block, bytes, 0) < 16)
         & bump_formed(word(block, bytes, 2))

@@ -1,2 +1,2 @@
 mod Lights
-mod Answers
+mod ReadByForm

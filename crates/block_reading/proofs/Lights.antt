@@ -4,27 +4,26 @@ use Prim.Native.Nat.{ℕ, zero, suc, _+_, _≤_, _<_}
 use native.Mathlib.Omega.{arith}
 use mathlib.Core.Path.{_≡_, refl, sym}
 use mathlib.Core.Bool.{Bool, true, false, cond}
-use mathlib.Core.List.{List, [], _∷_}
+use mathlib.Core.List.{List, [], _∷_, map}
 use lib.Dec.{ltb}
 use lib.ListN.{set}
 use borrow.Author.Tests.{ltb-false, lt-ltb, le-ltb}
 use Rattle.lighting.specs.declared.Light.{Light}
-use Rattle.lighting.specs.Blank.{blankLight}
-use Rattle.block.specs.Formed.{from, slotAt}
-use Rattle.block.specs.Reading.{blockLight, blockSlotLight, blockLights}
+use Rattle.lighting.specs.Lighting.{blankLight, slotOf}
+use Rattle.block.specs.Block.{from, slotAt, blockLight, blockSlotLight, blockLights}
 
 module _ (w : ℕ → ℕ) where
-  abbrev pub filled : ℕ → ℕ → Light
-  filled s k = cond (ltb k s) (blockSlotLight w k) blankLight
+  abbrev filled : ℕ → ℕ → Light
+  filled s k = cond (ltb k s) (blockSlotLight w (slotOf k)) blankLight
 
   abbrev pub firstLights : ℕ → List Light
-  firstLights s = filled s 0 ∷ filled s 1 ∷ filled s 2 ∷ filled s 3 ∷ filled s 4 ∷ filled s 5 ∷ filled s 6 ∷ filled s 7 ∷ []
+  firstLights s = map (filled s) (0 ∷ 1 ∷ 2 ∷ 3 ∷ 4 ∷ 5 ∷ 6 ∷ 7 ∷ [])
 
-  pub lit-slot : (s : ℕ) → s < w 1 → blockLight (from w (slotAt s)) ≡ blockSlotLight w s
+  pub lit-slot : (s : ℕ) → s < w 1 → blockLight (from w (slotAt (slotOf s))) ≡ blockSlotLight w (slotOf s)
   unfolding blockSlotLight
   lit-slot s h = rw (lt-ltb s (w 1) h) refl
 
-  pub one-more : (s : ℕ) → s < 8 → set (firstLights s) s (blockSlotLight w s) ≡ firstLights (s + 1)
+  pub one-more : (s : ℕ) → s < 8 → set (firstLights s) s (blockSlotLight w (slotOf s)) ≡ firstLights (s + 1)
   one-more zero h = refl
   one-more (suc zero) h = refl
   one-more (suc (suc zero)) h = refl
@@ -35,14 +34,14 @@ module _ (w : ℕ → ℕ) where
   one-more (suc (suc (suc (suc (suc (suc (suc zero))))))) h = refl
   one-more (suc (suc (suc (suc (suc (suc (suc (suc s)))))))) h = absurd (omega arith)
 
-  beyond : (k : ℕ) → w 1 ≤ k → blockSlotLight w k ≡ blankLight
+  beyond : (k : ℕ) → w 1 ≤ k → blockSlotLight w (slotOf k) ≡ blankLight
   unfolding blockSlotLight
   beyond k h = rw (le-ltb k (w 1) h) refl
 
-  kept : (s k : ℕ) → w 1 ≤ s → filled s k ≡ blockSlotLight w k
+  kept : (s k : ℕ) → w 1 ≤ s → filled s k ≡ blockSlotLight w (slotOf k)
   kept s k h = go (ltb k s) refl
     where
-      go : (b : Bool) → ltb k s ≡ b → cond b (blockSlotLight w k) blankLight ≡ blockSlotLight w k
+      go : (b : Bool) → ltb k s ≡ b → cond b (blockSlotLight w (slotOf k)) blankLight ≡ blockSlotLight w (slotOf k)
       go true e = refl
       go false e = let p : s ≤ k = ltb-false k s e in sym (beyond k (omega arith))
 

@@ -1,2 +1,2 @@
 mod Plain
-mod Parts
+mod LightMade

@@ -1,3 +1,2 @@
-pub mod Answer
-pub mod AnswerLaws
-pub mod Parts
+pub mod Steps
+pub mod FormLaws

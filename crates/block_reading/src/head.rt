@@ -8,19 +8,19 @@ use lighting::Lookup;
 use lighting::OptionalLookup;
 use lighting::OptionalShadow;
 use lighting::Shadow;
+use lighting::TableLookups;
 use sources::word;
 ghost use mathlib.Core.Path.{_≡_};
 ghost use mathlib.Core.Bool.{true};
 ghost use Prim.Native.Nat.{_+_, _≤_};
 ghost use lib.ListN.{length};
-ghost use Rattle.sources.specs.Sources.{given};
-ghost use Rattle.block.specs.Formed.{words, from};
-ghost use Rattle.block.specs.Reading.{blockBump, blockShadow, blockLookup, blockOptionalLookup, blockLightingWith};
-ghost use Rattle.block.specs.Answers.{nanFree};
-ghost use Rattle.block_reading.specs.Parts.{headSettings, headLookups};
+ghost use Rattle.sources.specs.Steps.{given};
+ghost use Rattle.block.specs.Block.{words, from, blockBump, blockShadow, blockLookup, blockOptionalLookup, blockLightingWith};
+ghost use Rattle.block.specs.Steps.{nanFree};
+ghost use Rattle.block_reading.specs.Steps.{headOptions, headLookups};
 
 // The words before the lookups but the count.
-struct Settings {
+struct Options {
     config: u32,
     bump: Bump,
     shadow: OptionalShadow,
@@ -29,16 +29,6 @@ struct Settings {
     clamp_highlights: bool,
     needs_half: bool,
     needs_view: bool,
-}
-
-struct Lookups {
-    distribution0: OptionalLookup,
-    distribution1: OptionalLookup,
-    fresnel: OptionalLookup,
-    reflect_red: OptionalLookup,
-    reflect_green: OptionalLookup,
-    reflect_blue: OptionalLookup,
-    spotlight: Lookup,
 }
 
 fn bump_of(n: u32) -> Bump
@@ -92,12 +82,12 @@ fn optional_lookup_of(block: &[u32], bytes: &[u8], at: usize) -> OptionalLookup
     }
 }
 
-fn settings_of(block: &[u32], bytes: &[u8]) -> Settings
+fn options_of(block: &[u32], bytes: &[u8]) -> Options
     requires { ⌜ length (given (now block) (now bytes)) ≡ 328 ⌝ }
-    ensures { λ r. ⌜ r ≡ headSettings (words (given (now (block .entry)) (now (bytes .entry)))) ⌝ }
+    ensures { λ r. ⌜ r ≡ headOptions (words (given (now (block .entry)) (now (bytes .entry)))) ⌝ }
 {
     let needs = word(block, bytes, 7);
-    Settings {
+    Options {
         config: word(block, bytes, 0),
         bump: bump_of(word(block, bytes, 2)),
         shadow: shadow_of(word(block, bytes, 3)),
@@ -109,11 +99,11 @@ fn settings_of(block: &[u32], bytes: &[u8]) -> Settings
     }
 }
 
-fn lookups_of(block: &[u32], bytes: &[u8]) -> Lookups
+fn lookups_of(block: &[u32], bytes: &[u8]) -> TableLookups
     requires { ⌜ length (given (now block) (now bytes)) ≡ 328 ⌝ }
     ensures { λ r. ⌜ r ≡ headLookups (words (given (now (block .entry)) (now (bytes .entry)))) ⌝ }
 {
-    Lookups {
+    TableLookups {
         distribution0: optional_lookup_of(block, bytes, 8),
         distribution1: optional_lookup_of(block, bytes, 12),
         fresnel: optional_lookup_of(block, bytes, 16),
@@ -133,13 +123,14 @@ pub(crate) fn light_count(block: &[u32], bytes: &[u8]) -> usize
 }
 
 // The lighting of a block that isn't off, with these lights. The block shader reads them where it needs them, and has blank ones here.
+// Asks: what the check found, a block's length and, where `plain` is set, that no word is a NaN's pattern.
 pub fn lighting_with(block: &[u32], bytes: &[u8], plain: bool, lights: [Light; 8]) -> Lighting
     requires { ⌜ (length (given (now block) (now bytes)) ≡ 328) × (plain ≡ true → nanFree (words (given (now block) (now bytes))) ≡ true) ⌝ }
     ensures { λ r. ⌜ r ≡ blockLightingWith (words (given (now (block .entry)) (now (bytes .entry)))) lights ⌝ }
 {
-    let settings = settings_of(block, bytes);
-    let bump = settings.bump;
-    let shadow = settings.shadow;
+    let options = options_of(block, bytes);
+    let bump = options.bump;
+    let shadow = options.shadow;
     let lookups = lookups_of(block, bytes);
     let distribution0 = lookups.distribution0;
     let distribution1 = lookups.distribution1;
@@ -152,7 +143,7 @@ pub fn lighting_with(block: &[u32], bytes: &[u8], plain: bool, lights: [Light; 8
         lights,
         light_count: light_count(block, bytes),
         global_ambient: plain_vector(block, bytes, 36, plain),
-        config: settings.config,
+        config: options.config,
         distribution0,
         distribution1,
         fresnel,
@@ -160,11 +151,11 @@ pub fn lighting_with(block: &[u32], bytes: &[u8], plain: bool, lights: [Light; 8
         reflect_green,
         reflect_blue,
         spotlight,
-        fresnel_primary: settings.fresnel_primary,
-        fresnel_secondary: settings.fresnel_secondary,
-        clamp_highlights: settings.clamp_highlights,
-        needs_half: settings.needs_half,
-        needs_view: settings.needs_view,
+        fresnel_primary: options.fresnel_primary,
+        fresnel_secondary: options.fresnel_secondary,
+        clamp_highlights: options.clamp_highlights,
+        needs_half: options.needs_half,
+        needs_view: options.needs_view,
         bump,
         shadow,
     }

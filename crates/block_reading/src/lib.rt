@@ -1,5 +1,5 @@
-// The block reader: the lighting of a block, or off, or a refusal. The block is never copied: each part is read where it stands. The words
-// come as words or as bytes.
+// The block reader: the lighting of a block, or off, or a refusal. The block is never copied: each part is read where it stands, the first 40 words in `head`, a slot's in
+// `light`. The words come as words or as bytes.
 pub mod head;
 pub mod light;
 
@@ -12,6 +12,7 @@ use block_check::form;
 use lighting::Light;
 use lighting::Lighting;
 use lighting::OptionalLighting;
+use lighting::Slot;
 use lighting::blank_light;
 use lighting::blank_lighting;
 use refusals::Outcome;
@@ -19,12 +20,11 @@ use refusals::Refusal;
 ghost use mathlib.Core.Path.{_≡_};
 ghost use mathlib.Core.Bool.{true};
 ghost use lib.ListN.{length};
-ghost use Rattle.sources.specs.Sources.{given};
-ghost use Rattle.refusals.specs.Numbers.{outcomeNumber};
-ghost use Rattle.block.specs.Formed.{words};
-ghost use Rattle.block.specs.Reading.{blockLights, blockLighting};
-ghost use Rattle.block.specs.Answers.{nanFree, reads};
-ghost use Rattle.block_reading.specs.Answer.{readBy, formRefusal, isLit, isPlain};
+ghost use Rattle.sources.specs.Steps.{given};
+ghost use Rattle.refusals.specs.Refusals.{outcomeNumber};
+ghost use Rattle.block.specs.Block.{words, blockLights, blockLighting, blockRead, answerOf};
+ghost use Rattle.block.specs.Steps.{nanFree};
+ghost use Rattle.block_reading.specs.Steps.{formRefusal, isLit, isPlain};
 
 // The lights in their slots, blank beyond the count.
 fn lights_of(block: &[u32], bytes: &[u8], plain: bool) -> [Light; 8]
@@ -34,18 +34,20 @@ fn lights_of(block: &[u32], bytes: &[u8], plain: bool) -> [Light; 8]
     let blank = blank_light();
     let mut lights = [blank; 8];
     let count = light_count(block, bytes);
-    let mut s = 0;
-    while s < 8 {
-        if count <= s {
+    let mut slot = Slot(0);
+    while slot.0 < 8 {
+        let at = slot.0;
+        if count <= at {
             return lights;
         }
-        lights[s] = light_of(block, bytes, 40 + 36 * s, plain);
-        s += 1;
+        lights[at] = light_of(block, bytes, slot, plain);
+        slot.0 += 1;
     }
     lights
 }
 
 // The lighting of a block that isn't off.
+// Asks: what the check found, a block's length and, where `plain` is set, that no word is a NaN's pattern.
 pub fn lighting_of(block: &[u32], bytes: &[u8], plain: bool) -> Lighting
     requires { ⌜ (length (given (now block) (now bytes)) ≡ 328) × (plain ≡ true → nanFree (words (given (now block) (now bytes))) ≡ true) ⌝ }
     ensures { λ r. ⌜ r ≡ blockLighting (words (given (now (block .entry)) (now (bytes .entry)))) ⌝ }
@@ -96,7 +98,7 @@ fn outcome_of(form: BlockForm, count: usize) -> Outcome
 
 // The lighting of a block, or off; a refused one is off too.
 pub fn read_block(block: &[u32]) -> BlockRead
-    ensures { λ r. ⌜ readBy r ≡ reads (now (block .entry)) ⌝ }
+    ensures { λ r. ⌜ answerOf r ≡ blockRead (now (block .entry)) ⌝ }
 {
     let none = [0u8; 0];
     let found = form(block, &none);

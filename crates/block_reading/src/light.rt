@@ -1,18 +1,19 @@
 // A light of a block, read where it stands. The words come as words or as bytes. `plain` says that no word is a NaN's pattern, so that floats are
 // taken from their words untested.
 use binary32::float_of;
+use block::slot_at;
 use lighting::Distance;
 use lighting::Light;
 use lighting::LightNumber;
+use lighting::Slot;
 use sources::word;
 ghost use mathlib.Core.Path.{_≡_};
 ghost use mathlib.Core.Bool.{true};
-ghost use Prim.Native.Nat.{_+_, _≤_};
+ghost use Prim.Native.Nat.{_+_, _<_, _≤_};
 ghost use lib.ListN.{length};
-ghost use Rattle.sources.specs.Sources.{given};
-ghost use Rattle.block.specs.Formed.{words, from};
-ghost use Rattle.block.specs.Reading.{blockVector, blockDistance, blockLight};
-ghost use Rattle.block.specs.Answers.{nanFree};
+ghost use Rattle.sources.specs.Steps.{given};
+ghost use Rattle.block.specs.Block.{words, from, slotAt, blockVector, blockDistance, blockLight};
+ghost use Rattle.block.specs.Steps.{nanFree};
 
 // The vector of the three words from `at` on.
 fn vector_of(block: &[u32], bytes: &[u8], at: usize) -> [f32; 3]
@@ -62,11 +63,13 @@ fn light_number(word: u32) -> LightNumber
     LightNumber(word as usize)
 }
 
-// The light of the 36 words from `at` on.
-pub fn light_of(block: &[u32], bytes: &[u8], at: usize, plain: bool) -> Light
-    requires { ⌜ (length (given (now block) (now bytes)) ≡ 328) × (at + 36 ≤ 328) × (plain ≡ true → nanFree (words (given (now block) (now bytes))) ≡ true) ⌝ }
-    ensures { λ r. ⌜ r ≡ blockLight (from (words (given (now (block .entry)) (now (bytes .entry)))) at) ⌝ }
+// The light of a slot's 36 words.
+// Asks: one of the eight slots and what the check found, a block's length and, where `plain` is set, that no word is a NaN's pattern.
+pub fn light_of(block: &[u32], bytes: &[u8], slot: Slot, plain: bool) -> Light
+    requires { ⌜ (length (given (now block) (now bytes)) ≡ 328) × (slot .0 < 8) × (plain ≡ true → nanFree (words (given (now block) (now bytes))) ≡ true) ⌝ }
+    ensures { λ r. ⌜ r ≡ blockLight (from (words (given (now (block .entry)) (now (bytes .entry)))) (slotAt slot)) ⌝ }
 {
+    let at = slot_at(slot);
     let flags = word(block, bytes, at + 32);
     Light {
         specular0: plain_vector(block, bytes, at, plain),

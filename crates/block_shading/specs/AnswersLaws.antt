@@ -6,17 +6,17 @@ use mathlib.Core.Bool.{Bool, true, false, cond, true≢false}
 use mathlib.Core.List.{List}
 use lib.ListN.{length}
 use borrow.Author.Tests.{eq-eqb, ne-eqb}
-use Rattle.refusals.specs.Lengths.{blockRefusal, tablesRefusal, fragmentRefusal, answerRefusal}
+use Rattle.refusals.specs.Refusals.{blockRefusal, tablesRefusal, fragmentRefusal, answerRefusal}
 use Rattle.block.specs.declared.BlockForm.the-variants.{Off as OffForm, NotWellFormed as BadForm, NanFree, WithNan}
-use Rattle.block.specs.Formed.{words, allZero, wellFormed}
+use Rattle.block.specs.Block.{words, allZero, wellFormed, blockLighting, blockReading, wordsRefusal}
+use Rattle.block.specs.Steps.{nanFree, formOf, blockForm}
 use Rattle.lighting.specs.declared.OptionalLighting.{OptionalLighting}
-use Rattle.lighting.specs.Blank.{off}
-use Rattle.block.specs.Reading.{on, blockLighting, blockReading}
-use Rattle.block.specs.Answers.{nanFree, formOf, blockForm, wordsRefusal}
-use Rattle.block_shading.specs.BlockShading.{shaded, eightOf, blockShadingRefusal, shadedBy, blockShadingIf, blockShading}
-use Rattle.block_shading.specs.Answers.{isOff}
-use Rattle.block_reading.specs.Answer.{isLit}
-use Rattle.block_reading.specs.AnswerLaws.{is-lit}
+use Rattle.lighting.specs.Lighting.{off, on}
+use Rattle.shading.specs.Shade.{shaded}
+use Rattle.block_shading.specs.BlockShading.{eightOf, blockShadingRefusal, shadedBy, blockShadingIf, blockShading}
+use Rattle.block_shading.specs.Steps.{isOff}
+use Rattle.block_reading.specs.Steps.{isLit}
+use Rattle.block_reading.specs.FormLaws.{is-lit}
 use Rattle.block.specs.TestLaws.{never}
 
 sized : (block : List ℕ) → length block ≡ 328 → blockForm block ≡ formOf (words block)

@@ -1,28 +1,46 @@
--- Block shading: a fragment shaded from a block's words and the tables' words. Definitions only.
-use Prim.Native.Nat.{ℕ, zero, suc}
-use mathlib.Core.List.{List}
+-- Block shading: a fragment shaded from a block and the tables alone. A fragment's 23 words, what block shading answers with its refusals, and the numbers
+-- of its answer's cases. Definitions only. The contract of `block_shading::shade_block` is `blockShading`; the eight k are `shade`'s (Shade of shading).
+use Prim.Native.Nat.{ℕ, zero, suc, _+_}
+use mathlib.Core.List.{List, [], _∷_}
 use mathlib.Core.Bool.{cond}
-use lib.ListN.{length}
-use Rattle.refusals.specs.Lengths.{blockRefusal, tablesRefusal, fragmentRefusal, answerRefusal, _else_}
+use lib.ListN.{getD, length}
+use lib.Ieee.{Float}
+use Rattle.refusals.specs.Refusals.{blockRefusal, tablesRefusal, fragmentRefusal, answerRefusal, _else_, numberOf}
+use Rattle.binary32.specs.Binary32.{floatOf}
 use Rattle.lighting.specs.declared.Lighting.{Lighting}
 use Rattle.lighting.specs.declared.OptionalLighting.{OptionalLighting}
-use Rattle.block.specs.Formed.{words}
-use Rattle.block.specs.Reading.{blockReading}
-use Rattle.block.specs.Answers.{wordsRefusal}
-use Rattle.shading.specs.LawShade.{shade}
-use Rattle.block_shading.specs.Fragment.{quaternionOf, viewOf, texelsOf}
+use Rattle.block.specs.Block.{words, blockReading, wordsRefusal}
+use Rattle.shading.specs.Shade.{shade}
+-- a number, and the answer slice afterwards
+pub use Rattle.shading.specs.Shade.{Shaded, shaded}
+use Rattle.block_shading.specs.declared.BlockShading.{BlockShading}
+use Rattle.block_shading.specs.declared.BlockShading.the-variants.{Refused, Off, Done}
 
--- what block shading gives: its number, and the answer slice afterwards
-pub record Shaded : Type 0 where
-  pub number : ℕ
-  pub answer : List ℕ
+-- ---- A fragment: "23 words (quaternion, view, texels)"
 
-abbrev pub shaded : ℕ → List ℕ → Shaded
-shaded k a = record { number = k; answer = a }
+-- the float of word i
+unfoldable pub floatAt : List ℕ → ℕ → Float
+floatAt q i = floatOf (getD q i 0)
+
+-- four floats from word i on
+unfoldable pub fourAt : List ℕ → ℕ → List Float
+fourAt q i = floatAt q i ∷ floatAt q (i + 1) ∷ floatAt q (i + 2) ∷ floatAt q (i + 3) ∷ []
+
+unfoldable pub quaternionOf : List ℕ → List Float
+quaternionOf q = fourAt q 0
+
+unfoldable pub viewOf : List ℕ → List Float
+viewOf q = floatAt q 4 ∷ floatAt q 5 ∷ floatAt q 6 ∷ []
+
+-- four texels of four channels each
+unfoldable pub texelsOf : List ℕ → List (List Float)
+texelsOf q = fourAt q 7 ∷ fourAt q 11 ∷ fourAt q 15 ∷ fourAt q 19 ∷ []
 
 -- the eight k, in the printed order, of a lighting, the tables and a fragment's words
 unfoldable pub eightOf : Lighting → List ℕ → List ℕ → List ℕ
 eightOf l tables fragment = shade l tables (quaternionOf fragment) (viewOf fragment) (texelsOf fragment)
+
+-- ---- What block shading answers
 
 -- "6; 2; 9 fragment not 23 words or answer not 8; 7"
 unfoldable pub blockShadingRefusal : List ℕ → List ℕ → List ℕ → List ℕ → ℕ
@@ -47,3 +65,10 @@ blockShadingIf (suc k) block tables fragment answer = shaded (suc k) answer
 unfoldable pub blockShading : List ℕ → List ℕ → List ℕ → List ℕ → Shaded
 blockShading block tables fragment answer =
     blockShadingIf (blockShadingRefusal block tables fragment answer) block tables fragment answer
+
+-- ---- The numbers of the answer's cases
+
+abbrev pub shadedNumber : BlockShading → ℕ
+shadedNumber (Refused r) = numberOf r
+shadedNumber Off = 100
+shadedNumber Done = 0

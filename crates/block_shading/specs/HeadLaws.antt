@@ -8,19 +8,14 @@ use mathlib.Core.List.{List}
 use lib.ListN.{getD}
 use lib.Ieee.{Float}
 use borrow.Author.Tests.{lt-ltb, ltb-true}
-use Rattle.lighting.specs.Blank.{blankLight}
-use Rattle.block.specs.Words.{noLight}
-use Rattle.block.specs.Formed.{from, slotAt, wellFormed}
+use Rattle.lighting.specs.Lighting.{blankLight, noLight, bumpUnit, shadowUnit, slotOf}
+use Rattle.block.specs.Block.{from, slotAt, wellFormed, blockLight, blockSlotLight, blockLights, blockLighting}
 use Rattle.block.specs.FormedLaws.{formed-parts}
 use Rattle.block.specs.WordLaws.{bump-unit-small, shadow-unit-small}
-use Rattle.block.specs.Answers.{bumpUnit, shadowUnit}
-use Rattle.block.specs.Reading.{blockLight, blockSlotLight, blockLights, blockLighting}
-use Rattle.shading.specs.Parts.{lightingLookups, lightingSettings, lightingFrame, lightingShadow, finishedOf}
-use Rattle.shading.specs.Sums.{sumsBy}
-use Rattle.shading.specs.Shade.{sumsOf, shadeBy, shadeOf}
-use Rattle.shading.specs.LawLaws.{shade-law}
-use Rattle.shading.specs.LawShade.{shade}
-use Rattle.block_shading.specs.Head.{headOf}
+use Rattle.shading.specs.Steps.{lightingLookups, lightingSettings, lightingFrame, lightingShadow, finishedOf, sumsBy, shadeBy, shadeOf}
+use Rattle.shading.specs.ShadeLaws.{shade-law}
+use Rattle.shading.specs.Shade.{shade}
+use Rattle.block_shading.specs.Steps.{headOf}
 
 module _ (w : ℕ → ℕ) where
   -- shading from the head, with the lights read from their slots
@@ -29,10 +24,10 @@ module _ (w : ℕ → ℕ) where
       (sumsBy tables (lightingLookups (headOf w)) (lightingFrame (headOf w) quaternion view texels) (lightingSettings (headOf w) (lightingShadow (headOf w) texels)) (blockLights w) (headOf w .«light_count») (headOf w .«light_count»))
       (lightingShadow (headOf w) texels)
       ≡ shade (blockLighting w) tables quaternion view texels
-  unfolding headOf blockLighting lightingLookups lightingSettings lightingFrame lightingShadow finishedOf sumsOf shadeBy shadeOf
+  unfolding headOf blockLighting lightingLookups lightingSettings lightingFrame lightingShadow finishedOf shadeBy shadeOf
   head-shades tables quaternion view texels = sym (shade-law (blockLighting w) tables quaternion view texels)
 
-  slot : (s : ℕ) → s < 8 → getD (blockLights w) s noLight ≡ blockSlotLight w s
+  slot : (s : ℕ) → s < 8 → getD (blockLights w) s noLight ≡ blockSlotLight w (slotOf s)
   unfolding blockLights
   slot zero h = refl
   slot (suc zero) h = refl
@@ -45,14 +40,14 @@ module _ (w : ℕ → ℕ) where
   slot (suc (suc (suc (suc (suc (suc (suc (suc s)))))))) h = absurd (omega arith)
 
   -- the light of a lit slot
-  pub lit-light : (s : ℕ) → s < w 1 → w 1 ≤ 8 → getD (blockLights w) s noLight ≡ blockLight (from w (slotAt s))
+  pub lit-light : (s : ℕ) → s < w 1 → w 1 ≤ 8 → getD (blockLights w) s noLight ≡ blockLight (from w (slotAt (slotOf s)))
   unfolding blockSlotLight
-  lit-light s h few = slot s (omega arith) ∙ ap (λ (b : Bool). cond b (blockLight (from w (slotAt s))) blankLight) (lt-ltb s (w 1) h)
+  lit-light s h few = slot s (omega arith) ∙ ap (λ (b : Bool). cond b (blockLight (from w (slotAt (slotOf s)))) blankLight) (lt-ltb s (w 1) h)
 
   -- its number is one of eight
-  pub lit-number : wellFormed w ≡ true → (s : ℕ) → s < w 1 → blockLight (from w (slotAt s)) .number .0 < 8
+  pub lit-number : wellFormed w ≡ true → (s : ℕ) → s < w 1 → blockLight (from w (slotAt (slotOf s))) .number .0 < 8
   unfolding blockLight
-  lit-number f s h = ltb-true (from w (slotAt s) 33) 8 (formed-parts w f .shape .number s h)
+  lit-number f s h = ltb-true (from w (slotAt (slotOf s)) 33) 8 (formed-parts w f .shape .number s h)
 
   -- both texture units are 0 to 3
   pub head-bump : wellFormed w ≡ true → bumpUnit (headOf w .bump) ≤ 3

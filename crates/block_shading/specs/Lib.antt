@@ -1,6 +1,4 @@
 pub mod BlockShading
-pub mod Answers
+pub mod Steps
 pub mod AnswersLaws
-pub mod Fragment
-pub mod Head
 pub mod HeadLaws

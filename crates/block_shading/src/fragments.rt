@@ -2,8 +2,9 @@
 ghost use mathlib.Core.Path.{_≡_};
 ghost use Prim.Native.Nat.{_+_, _≤_, _<_};
 ghost use lib.ListN.{length};
-ghost use Rattle.sources.specs.Sources.{given};
-ghost use Rattle.block_shading.specs.Fragment.{floatAt, fourAt, quaternionOf, viewOf, texelAt};
+ghost use Rattle.sources.specs.Steps.{given};
+ghost use Rattle.block_shading.specs.BlockShading.{floatAt, fourAt, quaternionOf, viewOf};
+ghost use Rattle.block_shading.specs.Steps.{texelAt};
 
 fn float_at(words: &[u32], bytes: &[u8], i: usize) -> f32
     requires { ⌜ i < length (given (now words) (now bytes)) ⌝ }

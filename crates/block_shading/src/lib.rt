@@ -1,4 +1,5 @@
-// Block shading: a fragment shaded from a block and the tables alone, as a renderer that has only the copy does it.
+// Block shading: a fragment shaded from a block and the tables alone, as a renderer that has only the copy does it. `fragments` has a fragment's 23 words, `slots` the
+// shading itself, a light at a time.
 mod fragments;
 pub mod slots;
 
@@ -10,9 +11,10 @@ use refusals::Refusal;
 ghost use mathlib.Core.Path.{_≡_};
 ghost use mathlib.Core.Bool.{true};
 ghost use lib.ListN.{length};
-ghost use Rattle.block.specs.Answers.{inRange};
-ghost use Rattle.block_shading.specs.BlockShading.{shaded, eightOf, blockShading};
-ghost use Rattle.block_shading.specs.Answers.{isOff, shadedNumber};
+ghost use Rattle.lighting.specs.Lighting.{inRange};
+ghost use Rattle.shading.specs.Shade.{shaded};
+ghost use Rattle.block_shading.specs.BlockShading.{eightOf, blockShading, shadedNumber};
+ghost use Rattle.block_shading.specs.Steps.{isOff};
 
 // What block shading answers: a refusal or off, with the answer slice as it was, or Done.
 pub enum BlockShading {
@@ -34,7 +36,12 @@ pub fn is_off(form: BlockForm) -> bool
 }
 
 // The eight channels of a fragment, 0 to 255, in the printed order.
-fn shade_block(block: &[u32], tables: &[u32], fragment: &[u32], answer: &mut [u32]) -> BlockShading
+pub fn shade_block(
+    block: &[u32],
+    tables: &[u32],
+    fragment: &[u32],
+    answer: &mut [u32],
+) -> BlockShading
     ensures { λ r. ⌜ shaded (shadedNumber r) (now (answer .exit)) ≡ blockShading (now (block .entry)) (now (tables .entry)) (now (fragment .entry)) (now (answer .entry)) ⌝ }
 {
     if block.len() != 328 {
@@ -71,6 +78,7 @@ fn shade_block(block: &[u32], tables: &[u32], fragment: &[u32], answer: &mut [u3
 }
 
 // The eight channels of a fragment from a lighting that was read already.
+// Asks: a lighting in range, as every reading of a block is, and the right lengths: for all fragments of a draw they are looked at once.
 pub fn shade_fragment(lighting: Lighting, tables: &[u32], fragment: &[u32], answer: &mut [u32])
     requires { ⌜ inRange lighting ≡ true ⌝ }
     requires { ⌜ (length (now tables) ≡ 12288) × (length (now fragment) ≡ 23) × (length (now answer) ≡ 8) ⌝ }

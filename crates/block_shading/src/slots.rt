@@ -5,22 +5,21 @@ use lighting::Lighting;
 use lighting::Slot;
 use lighting::blank_light;
 use surface::types::Frame;
-use surface::types::Lookups;
+use surface::types::LightingLookups;
 use surface::types::Settings;
 use surface::types::Sums;
 ghost use mathlib.Core.Path.{_≡_};
 ghost use mathlib.Core.Bool.{true};
 ghost use Prim.Native.Nat.{_≤_};
 ghost use lib.ListN.{length};
-ghost use Rattle.sources.specs.Sources.{given};
-ghost use Rattle.block_shading.specs.Fragment.{quaternionOf, viewOf, texelsOf};
-ghost use Rattle.block.specs.Formed.{words, wellFormed};
-ghost use Rattle.block.specs.Reading.{blockLights, blockLighting};
-ghost use Rattle.block.specs.Answers.{bumpUnit, shadowUnit, inRange, nanFree};
-ghost use Rattle.block_shading.specs.Head.{headOf};
-ghost use Rattle.shading.specs.Sums.{sumsBy};
-ghost use Rattle.shading.specs.LawShade.{shade};
-ghost use Rattle.shading.specs.Parts.{lightingFrame, lightingShadow};
+ghost use Rattle.sources.specs.Steps.{given};
+ghost use Rattle.block_shading.specs.BlockShading.{quaternionOf, viewOf, texelsOf};
+ghost use Rattle.block.specs.Block.{words, wellFormed, blockLights, blockLighting};
+ghost use Rattle.block.specs.Steps.{nanFree};
+ghost use Rattle.lighting.specs.Lighting.{bumpUnit, shadowUnit, inRange};
+ghost use Rattle.block_shading.specs.Steps.{headOf};
+ghost use Rattle.shading.specs.Steps.{sumsBy, lightingFrame, lightingShadow};
+ghost use Rattle.shading.specs.Shade.{shade};
 use crate::fragments;
 
 // The lighting but its lights, which stay blank.
@@ -39,7 +38,7 @@ fn frame_of(l: Lighting, fragment: &[u32], bytes: &[u8]) -> Frame
     let bump = l.bump;
     let quaternion = fragments::quaternion_of(fragment, bytes);
     let view = fragments::view_of(fragment, bytes);
-    let texel = fragments::texel_at(fragment, bytes, block::bump_unit(bump));
+    let texel = fragments::texel_at(fragment, bytes, lighting::bump_unit(bump));
     surface::frame_of(bump, texel, l.config, l.needs_view, quaternion, view)
 }
 
@@ -48,7 +47,7 @@ fn shadow_of(l: Lighting, fragment: &[u32], bytes: &[u8]) -> [f32; 4]
     ensures { λ r. ⌜ r ≡ lightingShadow l (texelsOf (given (now (fragment .entry)) (now (bytes .entry)))) ⌝ }
 {
     let shadow = l.shadow;
-    let texel = fragments::texel_at(fragment, bytes, block::shadow_unit(shadow));
+    let texel = fragments::texel_at(fragment, bytes, lighting::shadow_unit(shadow));
     surface::shadow::shadow_texel(shadow, texel)
 }
 
@@ -75,7 +74,7 @@ fn sum_slots(
     tables: &[u32],
     table_bytes: &[u8],
     plain: bool,
-    lookups: Lookups,
+    lookups: LightingLookups,
     frame: Frame,
     settings: Settings,
     count: usize,
@@ -89,10 +88,10 @@ fn sum_slots(
         diffuse: [0.0, 0.0, 0.0, 1.0],
         specular: [0.0, 0.0, 0.0, 1.0],
     };
-    let mut i = 0;
-    while i < count {
-        let light = light_of(block, block_bytes, 40 + 36 * i, plain);
-        let last = shading::sums::is_last(Slot(i), count);
+    let mut slot = Slot(0);
+    while slot.0 < count {
+        let light = light_of(block, block_bytes, slot, plain);
+        let last = shading::sums::is_last(slot, count);
         sums = light_steps::step(
             tables,
             table_bytes,
@@ -103,12 +102,14 @@ fn sum_slots(
             light,
             sums,
         );
-        i += 1;
+        slot.0 += 1;
     }
     sums
 }
 
 // The eight channels from a block.
+// Asks: the right lengths and a well-formed block, without a NaN's pattern where `plain` is set: its callers, on words and on bytes, have checked them, since
+// an enum that answers with channels cannot be had.
 pub fn shade_lit(
     block: &[u32],
     block_bytes: &[u8],

@@ -7,21 +7,18 @@ use mathlib.Core.List.{List, _++_}
 use mathlib.Core.Bool.{Bool, true, false, cond}
 use borrow.Author.Tests.{le-leb}
 use lib.ListN.{length, take, drop}
-use Rattle.refusals.specs.Numbers.{numberOf, outcomeNumber}
+use Rattle.refusals.specs.Refusals.{numberOf, outcomeNumber}
 use Rattle.refusals.specs.declared.Refusal.{Refusal}
 use Rattle.refusals.specs.declared.Refusal.the-variants.{ShortFile, WrongTables, HighRegister, LastGeneration, WrongSaved, WrongBlock, NotWellFormed, BadCapture, WrongFragment}
 use Rattle.refusals.specs.declared.Outcome.{Outcome}
 use Rattle.refusals.specs.declared.Outcome.the-variants.{Refused}
 use Rattle.sources.specs.Sources.{wordsOf}
-use Rattle.printing.specs.Writing.{out, puts}
+use Rattle.printing.specs.Steps.{out, puts}
 use Rattle.printing.specs.WritingLaws.{put-size, put-list, put-front}
-use Rattle.printing.specs.Text.{refusedLine}
-use Rattle.capture_check.specs.Contents.{contents, sized, registersRight, shaped}
-use Rattle.capture_check.specs.Refusal.{captureWordsRefusal, captureRefusal}
-use Rattle.capture_calls.specs.Machine.{largestOutput}
-use Rattle.capture_calls.specs.declared.answers.Answer.{Answer}
-use Rattle.capture_calls.specs.Answers.{numberBy, sizeOf, capturedBy}
-use Rattle.capture_calls.specs.Printed.{printedIf, printed, captures}
+use Rattle.printing.specs.Printing.{refusedLine}
+use Rattle.capture_check.specs.Contents.{contents, sized, registersRight, shaped, captureWordsRefusal, captureRefusal}
+use Rattle.capture_calls.specs.Capture.{largestOutput, numberBy, sizeOf, capturedBy, printedIf, printed, captures}
+use Rattle.capture_calls.specs.declared.Answer.{Answer}
 use Rattle.capture_calls.specs.PrintedLaws.{printed-refused, printed-fits}
 
 -- 0, 3 or 8

@@ -1,15 +1,14 @@
 // The run of a capture that was checked, on a fresh unit and a fresh copy.
-use crate::body::Held;
-use crate::run::run_bodies;
+use crate::bodies::run_bodies;
+use capture_body::Held;
 use capture_check::contents::wide;
 ghost use mathlib.Core.Path.{_≡_};
 ghost use Prim.Native.Nat.{_≤_};
 ghost use lib.ListN.{length};
 ghost use Rattle.lists.specs.Plain.{zeroMachine};
-ghost use Rattle.printing.specs.Writing.{out as outAt, puts};
-ghost use Rattle.capture_check.specs.Contents.{contents};
-ghost use Rattle.capture_check.specs.Refusal.{captureWordsRefusal};
-ghost use Rattle.capture_calls.specs.Machine.{machinePrints, largestOutput};
+ghost use Rattle.printing.specs.Steps.{out as outAt, puts};
+ghost use Rattle.capture_check.specs.Contents.{contents, captureWordsRefusal};
+ghost use Rattle.capture_calls.specs.Capture.{machinePrints, largestOutput};
 
 // A capture whose words were checked, on a fresh unit and a fresh copy; how many bytes it printed.
 pub(crate) fn run_fresh(words: &[u32], out: &mut [u8]) -> usize

@@ -1,11 +1,10 @@
-// The capture program's library call: the bytes that a capture prints, worked out from the bytes of the input.
-mod body;
+// The capture program's library call: the bytes that a capture prints, worked out from the bytes of the input. To be read from the call inwards, here and then `fresh`, a run on a
+// fresh unit and copy, and `bodies`, its bodies in order; one body is `capture_body`.
+mod bodies;
 mod fresh;
-mod run;
-mod writes;
 
 use crate::fresh::run_fresh;
-use capture_calls::answers::Answer;
+use capture_calls::Answer;
 use capture_check::check_words;
 use capture_check::contents::sized;
 use capture_check::words::to_words;
@@ -15,11 +14,9 @@ use refusals::Refusal;
 ghost use mathlib.Core.Path.{_≡_};
 ghost use Prim.Native.Nat.{_≤_};
 ghost use lib.ListN.{length};
-ghost use Rattle.printing.specs.Writing.{out as outAt, puts};
-ghost use Rattle.capture_check.specs.Refusal.{captureWordsRefusal};
-ghost use Rattle.capture_calls.specs.Machine.{largestOutput};
-ghost use Rattle.capture_calls.specs.Answers.{sizeOf, numberBy, capturedBy};
-ghost use Rattle.capture_calls.specs.Printed.{printedIf, captures};
+ghost use Rattle.printing.specs.Steps.{out as outAt, puts};
+ghost use Rattle.capture_check.specs.Contents.{captureWordsRefusal};
+ghost use Rattle.capture_calls.specs.Capture.{largestOutput, sizeOf, numberBy, capturedBy, printedIf, captures};
 
 // The words of an input whose size is right: both refusals come before any body runs.
 fn run_words(words: &[u32], out: &mut [u8]) -> Answer

@@ -7,12 +7,9 @@ use mathlib.Core.Bool.{Bool, true, false, cond}
 use borrow.Author.Tests.{le-leb}
 use lib.ListN.{length}
 use Rattle.sources.specs.Sources.{wordsOf}
-use Rattle.capture_check.specs.Contents.{contents, sized, shaped, registersRight}
-use Rattle.capture_check.specs.Refusal.{captureWordsRefusal, captureRefusal}
-use Rattle.capture_calls.specs.Machine.{largestOutput}
-use Rattle.capture_calls.specs.declared.answers.Answer.{Answer}
-use Rattle.capture_calls.specs.Answers.{shortOutput, numberBy, Captured, capturedBy}
-use Rattle.capture_calls.specs.Printed.{captures}
+use Rattle.capture_check.specs.Contents.{contents, sized, shaped, registersRight, captureWordsRefusal, captureRefusal}
+use Rattle.capture_calls.specs.Capture.{largestOutput, shortOutput, numberBy, Captured, capturedBy, captures}
+use Rattle.capture_calls.specs.declared.Answer.{Answer}
 
 refusal-other : (input : List ℕ) → captureRefusal input ≡ shortOutput → ⊥
 unfolding captureRefusal captureWordsRefusal

@@ -8,7 +8,7 @@ use mathlib.Core.Bool.{Bool, true, false, cond}
 use lib.ListN.{length, length-take}
 use lib.Dec.{eqb}
 use Rattle.capture_check.specs.Contents.{Body, wordsIn}
-use Rattle.capture_calls.specs.Calls.{pairCalls, handOverCall, restoreCall, bodyCalls}
+use Rattle.capture_calls.specs.Capture.{pairCalls, handOverCall, restoreCall, bodyCalls}
 
 -- "kind 2 first hands over, even with no fragment": one call, whatever its words are
 pub kind-2-hands-over : (ws : List ℕ) → bodyCalls 2 ws ≡ handOverCall ∷ []

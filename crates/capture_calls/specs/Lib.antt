@@ -1,11 +1,8 @@
-pub mod Calls
-pub mod Run
-pub mod Machine
+pub mod Capture
+pub mod Steps
 pub mod CallLaws
 pub mod RunLaws
 pub mod MachineLaws
-pub mod Answers
-pub mod Printed
 pub mod RefusalLaws
 pub mod PrintedLaws
 pub mod AnswerLaws

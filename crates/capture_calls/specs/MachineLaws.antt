@@ -9,9 +9,10 @@ use mathlib.Core.Bool.{Bool, true, false, cond}
 use lib.ListN.{length, length-append}
 use lib.Dec.{eqb}
 use borrow.Author.Tests.{eqb-true}
-use Rattle.decoding.specs.Decode.{decoded}
-use Rattle.block_shading.specs.BlockShading.{shaded, eightOf}
-use Rattle.unit.specs.Fresh.{freshCache}
+use Rattle.decoding.specs.Read.{read}
+use Rattle.shading.specs.Shade.{shaded}
+use Rattle.block_shading.specs.BlockShading.{eightOf}
+use Rattle.unit.specs.Unit.{freshCache}
 use Rattle.lists.specs.States.{fresh}
 use Rattle.lists.specs.Calls.{Call, run}
 use Rattle.lists.specs.Ours.{ours}
@@ -20,12 +21,12 @@ use Rattle.lists.specs.Claim.{HandsOver, EndsHandedOver, shadeFrom, Demand3}
 use Rattle.lists.specs.Demand3Laws.{every-list-shades-alike}
 use Rattle.capture_check.specs.Contents.{Body, bodyCount, contents, contentsEnd, wordsIn, gapless, shaped}
 use Rattle.capture_check.specs.ContentsLaws.{lies-end, gapless-head, gapless-rest, shaped-end, shaped-gapless, contents-count}
-use Rattle.capture_lines.specs.Lines.{noAnswer, blockShades, fragmentLines, bodyLines}
+use Rattle.capture_lines.specs.Lines.{noAnswer, fragmentLines, bodyLines}
+use Rattle.capture_lines.specs.Steps.{blockShades}
 use Rattle.capture_lines.specs.LinesLaws.{lines-alike, body-fits}
 use Rattle.capture_lines.specs.ChannelLaws.{eight-long}
-use Rattle.capture_calls.specs.Calls.{handOverCall, bodyCalls}
-use Rattle.capture_calls.specs.Run.{afterBody, afterLines, copyPrints}
-use Rattle.capture_calls.specs.Machine.{machineAfter, machineShades, machinePrints}
+use Rattle.capture_calls.specs.Capture.{handOverCall, bodyCalls, machineAfter, machineShades, machinePrints}
+use Rattle.capture_calls.specs.Steps.{afterBody, afterLines, copyPrints}
 use Rattle.capture_calls.specs.CallLaws.{kind-2-hands-over, body-calls-few, words-in-few}
 use Rattle.capture_calls.specs.RunLaws.{run-append}
 
@@ -95,10 +96,10 @@ copy-prints-as-machine w n s =
 
 machine-eight : (m : Machine) (q : List ℕ) → length (machineShades m q .answer) ≡ 8
 unfolding shadeFrom
-machine-eight m q = go (decoded (m .registers) .on)
+machine-eight m q = go (read (m .registers) .on)
   where
-    go : (b : Bool) → length (cond b (shaded 0 (eightOf (decoded (m .registers) .lighting) (m .entries) q)) (shaded 100 noAnswer) .answer) ≡ 8
-    go true = eight-long (decoded (m .registers) .lighting) (m .entries) q
+    go : (b : Bool) → length (cond b (shaded 0 (eightOf (read (m .registers) .lighting) (m .entries) q)) (shaded 100 noAnswer) .answer) ≡ 8
+    go true = eight-long (read (m .registers) .lighting) (m .entries) q
     go false = refl
 
 pub machine-fits : (w : List ℕ) (bs : List Body) (m : Machine) (at end : ℕ) → gapless bs at end ≡ true → length (machinePrints w bs m) ≤ 32 * ((end - at) / 23)

@@ -9,15 +9,13 @@ use lib.ListN.{length}
 use Rattle.sources.specs.Sources.{wordsOf}
 use Rattle.sources.specs.SourcesLaws.{length-words}
 use Rattle.lists.specs.Plain.{zeroMachine}
-use Rattle.printing.specs.Text.{refusedLine}
+use Rattle.printing.specs.Printing.{refusedLine}
 use Rattle.printing.specs.TextLaws.{refused-most}
-use Rattle.capture_check.specs.Contents.{bodyCount, contents, contentsEnd, sized, shaped}
+use Rattle.capture_check.specs.Contents.{bodyCount, contents, contentsEnd, sized, shaped, captureWordsRefusal, captureRefusal}
 use Rattle.capture_check.specs.ContentsLaws.{shaped-gapless, sized-most}
-use Rattle.capture_check.specs.Refusal.{captureWordsRefusal, captureRefusal}
-use Rattle.capture_calls.specs.Machine.{largestOutput}
+use Rattle.capture_calls.specs.Capture.{largestOutput, printedIf, printed}
 use Rattle.capture_calls.specs.MachineLaws.{machine-fits}
 use Rattle.capture_calls.specs.RefusalLaws.{not-refused-shaped}
-use Rattle.capture_calls.specs.Printed.{printedIf, printed}
 
 -- "A bad capture prints only `refused N`."
 pub printed-refused : (k : ℕ) (w : List ℕ) → printedIf (suc k) w ≡ refusedLine (suc k)

@@ -4,8 +4,7 @@ use native.Mathlib.Omega.{arith}
 use mathlib.Core.Path.{_≡_, refl}
 use mathlib.Core.List.{List}
 use mathlib.Core.Bool.{Bool, true, false, cond}
-use Rattle.capture_check.specs.Contents.{contents, shaped, registersRight}
-use Rattle.capture_check.specs.Refusal.{captureWordsRefusal}
+use Rattle.capture_check.specs.Contents.{contents, shaped, registersRight, captureWordsRefusal}
 
 pub not-refused-shaped : (w : List ℕ) → captureWordsRefusal w ≡ 0 → shaped w ≡ true
 unfolding captureWordsRefusal

@@ -4,8 +4,7 @@ use mathlib.Core.Path.{_≡_, refl}
 use mathlib.Core.List.{List, [], _∷_, _++_}
 use lib.ListN.{replicate}
 use Rattle.sources.specs.Sources.{wordsOf}
-use Rattle.capture_check.specs.Contents.{triples, sized, sizeRight, lies, gapless, shaped, registersIn, bodyRight, registersRight}
-use Rattle.capture_check.specs.Refusal.{captureWordsRefusal, captureRefusal}
+use Rattle.capture_check.specs.Contents.{triples, sized, sizeRight, lies, gapless, shaped, registersIn, bodyRight, registersRight, captureWordsRefusal, captureRefusal}
 
 -- "2, 1, 7, A, 2, 11, 17, then 8F 1, 142 FF3FCFF, 145 3C00, 149 1, 1C4 FFFFFFFF, then 23 zeros"
 pub wholeCase : List ℕ

@@ -1,3 +1,2 @@
-pub mod Refusal
 pub mod Contents
 pub mod ContentsLaws

@@ -3,6 +3,7 @@ ghost use mathlib.Core.Path.{_≡_};
 ghost use Prim.Native.Nat.{_≤_, _<_};
 ghost use Rattle.capture_check.specs.Contents.{body as bodyOf, sized as sizedOf, lies as liesOf};
 
+// A word as a place or a size.
 pub fn wide(x: u32) -> usize
     ensures { λ r. ⌜ (r ≡ x) × (r < 0x100000000) ⌝ }
 {

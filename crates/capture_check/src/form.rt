@@ -27,6 +27,7 @@ fn gapless(words: &[u32], count: usize) -> bool
     at == words.len()
 }
 
+// Whether the words have the form of a capture.
 pub(crate) fn shaped(words: &[u32]) -> bool
     ensures { λ r. ⌜ r ≡ shapedOf (now (words .entry)) ⌝ }
 {

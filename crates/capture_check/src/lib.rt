@@ -1,4 +1,5 @@
-// The check of a capture's words, before anything of it is run.
+// The check of a capture, before anything of it is run: refusals 8 and 3. Its modules follow the data: `words` has the bytes as words, `contents` the size of an input and the place of a
+// body, `form` the contents and bodies as a whole, `registers` those of kind 1 bodies.
 pub mod contents;
 mod form;
 mod registers;
@@ -10,8 +11,8 @@ use crate::registers::registers_right;
 use refusals::Outcome;
 use refusals::Refusal;
 ghost use mathlib.Core.Path.{_≡_};
-ghost use Rattle.refusals.specs.Numbers.{outcomeNumber};
-ghost use Rattle.capture_check.specs.Refusal.{captureWordsRefusal};
+ghost use Rattle.refusals.specs.Refusals.{outcomeNumber};
+ghost use Rattle.capture_check.specs.Contents.{captureWordsRefusal};
 
 // Refusals 8 and 3 of the words of an input whose size is right: every rule of form comes before any register.
 pub fn check_words(words: &[u32]) -> Outcome

@@ -21,6 +21,7 @@ fn registers_in(pairs: &[u32]) -> bool
     true
 }
 
+// The same of a body of any kind.
 fn body_right(kind: u32, body: &[u32]) -> bool
     ensures { λ r. ⌜ r ≡ bodyRight kind (now (body .entry)) ⌝ }
 {
@@ -30,6 +31,7 @@ fn body_right(kind: u32, body: &[u32]) -> bool
     true
 }
 
+// Whether no register of any kind 1 body is too high, the bodies being where they are due.
 pub(crate) fn registers_right(words: &[u32], count: usize) -> bool
     requires { ⌜ (contentsEnd count ≤ length (now words)) × (gaplessOf (triples (now words) 0 count) (contentsEnd count) (length (now words)) ≡ true) ⌝ }
     ensures { λ r. ⌜ r ≡ registersRight (now (words .entry)) (triples (now (words .entry)) 0 count) ⌝ }

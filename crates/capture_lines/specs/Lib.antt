@@ -1,3 +1,4 @@
 pub mod Lines
+pub mod Steps
 pub mod ChannelLaws
 pub mod LinesLaws

@@ -9,10 +9,10 @@ use mathlib.Core.Bool.{Bool, true, false, cond}
 use lib.ListN.{length, take, drop, length-append, length-drop}
 use lib.Seq.{drop-drop, length-take-le}
 use lib.Dec.{eqb}
-use Rattle.printing.specs.Writing.{Out, out, puts}
+use Rattle.printing.specs.Steps.{Out, out, puts}
 use Rattle.printing.specs.WritingLaws.{puts-more}
 use Rattle.printing.specs.TextLaws.{line-most, refused-most}
-use Rattle.block_shading.specs.BlockShading.{Shaded}
+use Rattle.shading.specs.Shade.{Shaded}
 use Rattle.capture_lines.specs.Lines.{shownLine, fragmentLines, bodyLines}
 
 module _ (f g : List ℕ → Shaded) (alike : (q : List ℕ) → length q ≡ 23 → f q ≡ g q) where

@@ -1,51 +1,38 @@
-// The lines of fragments that no lighting colours: `off`, or a refusal.
-pub mod fragments;
+// The lines that a capture's fragments print, from the copy's block and tables. The block is read once for all of them: `unlit` has the lines where it holds no
+// lighting, `lit` those that a lighting colours; they are called from here.
 mod lit;
+mod unlit;
 
-use printing::put_off;
-use printing::put_refused;
-use refusals::Outcome;
+use crate::lit::print_all_lit;
+use crate::unlit::print_all_unlit;
+use crate::unlit::unlit_number;
+use block_reading::read_block;
 ghost use mathlib.Core.Path.{_≡_};
-ghost use mathlib.Core.Bool.{cond};
-ghost use Prim.Native.Nat.{_+_, _*_, _/_, _≤_, _<_};
-ghost use lib.Dec.{eqb};
+ghost use Prim.Native.Nat.{_+_, _*_, _/_, _≤_};
 ghost use lib.ListN.{length};
-ghost use Rattle.refusals.specs.Numbers.{outcomeNumber};
-ghost use Rattle.block_shading.specs.BlockShading.{shaded};
-ghost use Rattle.printing.specs.Writing.{out as outAt, puts};
-ghost use Rattle.capture_lines.specs.Lines.{noAnswer, unlitShades, shownLine, fragmentLines};
+ghost use Rattle.printing.specs.Steps.{out as outAt, puts};
+ghost use Rattle.capture_lines.specs.Lines.{fragmentLines};
+ghost use Rattle.capture_lines.specs.Steps.{blockShades};
 
-// What shading answers from a block that isn't lit: 100 where it is off, or the refusal's number.
-pub(crate) fn unlit_number(outcome: Outcome) -> u32
-    ensures { λ r. ⌜ (r ≡ cond (eqb (outcomeNumber outcome) 0) 100 (outcomeNumber outcome)) × (0 < r) × (r < 1000) ⌝ }
+// The lines of fragments of 23 words each, as block shading answers each of them; the place after them.
+// Asks: tables of 12,288 words, as a copy's are, and 32 bytes of room for each fragment; a capture's size bounds how many there are, and a line that does not fit
+// would have no answer.
+pub fn print_fragments(
+    block: &[u32],
+    tables: &[u32],
+    fragments: &[u32],
+    out: &mut [u8],
+    at: usize,
+) -> usize
+    requires { ⌜ (length (now tables) ≡ 12288) × (at + 32 * (length (now fragments) / 23) ≤ length (now out)) ⌝ }
+    ensures { λ r. ⌜ (outAt (now (out .exit)) r ≡ puts (outAt (now (out .entry)) at) (fragmentLines (blockShades (now (block .entry)) (now (tables .entry))) (length (now (fragments .entry)) / 23) (now (fragments .entry)))) × (r ≤ at + 32 * (length (now (fragments .entry)) / 23)) ⌝ }
 {
-    match outcome {
-        Outcome::Done => 100,
-        Outcome::Refused(refusal) => refusals::number(refusal),
+    let read = read_block(block);
+    let reading = read.reading;
+    if reading.on {
+        let lighting = reading.lighting;
+        return print_all_lit(lighting, tables, fragments, out, at);
     }
-}
-
-// The line of a fragment that isn't lit: `off` for 100, else a refusal's number.
-fn print_unlit(number: u32, out: &mut [u8], at: usize) -> usize
-    requires { ⌜ (0 < number) × (number < 1000) × (at + 32 ≤ length (now out)) ⌝ }
-    ensures { λ r. ⌜ (outAt (now (out .exit)) r ≡ puts (outAt (now (out .entry)) at) (shownLine (shaded number noAnswer))) × (r ≤ at + 32) ⌝ }
-{
-    if number == 100 {
-        return put_off(out, at);
-    }
-    put_refused(out, at, number)
-}
-
-pub(crate) fn print_all_unlit(number: u32, fragments: &[u32], out: &mut [u8], at: usize) -> usize
-    requires { ⌜ (0 < number) × (number < 1000) × (at + 32 * (length (now fragments) / 23) ≤ length (now out)) ⌝ }
-    ensures { λ r. ⌜ (outAt (now (out .exit)) r ≡ puts (outAt (now (out .entry)) at) (fragmentLines (unlitShades number) (length (now (fragments .entry)) / 23) (now (fragments .entry)))) × (r ≤ at + 32 * (length (now (fragments .entry)) / 23)) ⌝ }
-{
-    let count = fragments.len() / 23;
-    let mut next = at;
-    let mut i = 0;
-    while i < count {
-        next = print_unlit(number, out, next);
-        i += 1;
-    }
-    next
+    let outcome = read.outcome;
+    print_all_unlit(unlit_number(outcome), fragments, out, at)
 }

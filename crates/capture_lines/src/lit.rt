@@ -5,9 +5,10 @@ ghost use mathlib.Core.Path.{_≡_};
 ghost use mathlib.Core.Bool.{true};
 ghost use Prim.Native.Nat.{_+_, _*_, _/_, _≤_};
 ghost use lib.ListN.{length};
-ghost use Rattle.block.specs.Answers.{inRange};
-ghost use Rattle.printing.specs.Writing.{out as outAt, puts};
-ghost use Rattle.capture_lines.specs.Lines.{litShades, shownLine, fragmentLines};
+ghost use Rattle.lighting.specs.Lighting.{inRange};
+ghost use Rattle.printing.specs.Steps.{out as outAt, puts};
+ghost use Rattle.capture_lines.specs.Lines.{shownLine, fragmentLines};
+ghost use Rattle.capture_lines.specs.Steps.{litShades};
 
 // The line of a fragment of 23 words, by a lighting.
 fn print_lit(
@@ -26,6 +27,7 @@ fn print_lit(
     put_line(out, at, k)
 }
 
+// The lines of all of them.
 pub(crate) fn print_all_lit(
     lighting: Lighting,
     tables: &[u32],

@@ -1,18 +1,15 @@
--- Document 01's cases P, as one table: what the definitions give, in words, and what the paper says they must. Definitions only.
+-- Document 01's cases P, as one table: what the definitions give, in words, and what the paper says they must. That every case holds: CasesLaws. Definitions only.
 use Prim.Native.Nat.{ℕ}
+use mathlib.Core.Bool.{Bool, true, _&&_}
 use mathlib.Core.List.{List, [], _∷_}
-use mathlib.Core.Bool.{Bool, true, false, _&&_}
-use lib.Dec.{eqb}
 use lib.IntN.{pos, negsuc}
 use lib.ListN.{getD, set, replicate}
 use lib.Ieee.{Float, nan, binary32, ofInt}
-use Rattle.binary32.specs.Words.{floatOf, wordOf}
-use Rattle.binary32.specs.Quantize.{quantizedOf}
-use Rattle.binary32.specs.Places.{signedPlaceOf}
+use Rattle.sources.specs.Sources.{sameWords}
+use Rattle.binary32.specs.Binary32.{floatOf, wordOf, quantizedOf, signedPlaceOf}
 use Rattle.root.specs.Root.{rootOf}
-use Rattle.fields.specs.ShortFloat.{shortFloat}
-use Rattle.fields.specs.Fixed.{fixedOf}
-use Rattle.tables.specs.Write.{Wrote, write}
+use Rattle.fields.specs.Fields.{shortFloat, fixedOf}
+use Rattle.tables.specs.Tables.{Wrote, write}
 
 -- a case: the words that a definition gives, and those that are due
 pub record Case : Type 0 where
@@ -46,33 +43,31 @@ told w = w .number ∷ getD (w .file) 0x1C5 0 ∷ w .generation ∷ w .tables
 unfoldable pub signedPlace : Float → List ℕ
 signedPlace x = signedPlaceOf x .entry ∷ wordOf (signedPlaceOf x .delta) ∷ []
 
--- In the paper's order
+-- P, in the paper's order
 unfoldable pub cases : List Case
 cases =
+    -- "half 3C00 is 1; half 8000 is −0; half 0001 is 38002000; half 7C00 is 7F800000"
     half 0x3C00 is 0x3F80_0000
     ∷ half 0x8000 is 0x8000_0000
     ∷ half 0x0001 is 0x3800_2000
     ∷ half 0x7C00 is 0x7F80_0000
+    -- "20-bit 3F000 is 1; spot 1FFF is −1/2047; root of 2 is 3FB504F3"
     ∷ float20 0x3F000 is 0x3F80_0000
-    -- −1/2047
     ∷ wordOf (fixedOf 0x1FFF) is 0xBA00_1002
     ∷ wordOf (rootOf (ofInt binary32 (pos 2))) is 0x3FB5_04F3
+    -- "0.5 quantises to 127; NaN to 0"
     ∷ quantizedOf (floatOf 0x3F00_0000) is 127
     ∷ quantizedOf nan is 0
+    -- "fresh upload 800000 stores 0 and −0, generation 1"
     ∷ case (told (uploaded 0 0x80_0000)) (0 ∷ 1 ∷ 1 ∷ 0 ∷ 0x8000_0000 ∷ replicate 12286 0)
+    -- "1C5 17FF becomes 1700; 1C5 1800 becomes 1801 with nothing stored"
     ∷ case (told (uploaded 0x17FF 0)) (0 ∷ 0x1700 ∷ 0 ∷ replicate 12288 0)
     ∷ case (told (uploaded 0x1800 0xFF_FFFF)) (0 ∷ 0x1801 ∷ 0 ∷ replicate 12288 0)
+    -- "signed input −1 reads entry 128, delta 0"
     ∷ case (signedPlace (ofInt binary32 (negsuc 0))) (128 ∷ 0 ∷ [])
     ∷ []
-
--- the same words in the same order
-unfoldable pub same : List ℕ → List ℕ → Bool
-same [] [] = true
-same [] (y ∷ ys) = false
-same (x ∷ xs) [] = false
-same (x ∷ xs) (y ∷ ys) = eqb x y && same xs ys
 
 -- every case gives what is due
 unfoldable pub hold : List Case → Bool
 hold [] = true
-hold (c ∷ cs) = same (c .gives) (c .due) && hold cs
+hold (c ∷ cs) = sameWords (c .gives) (c .due) && hold cs

@@ -4,15 +4,8 @@ ghost use mathlib.Core.List.{[], _∷_};
 ghost use Prim.Native.Nat.{_%_};
 ghost use lib.ListN.{getD};
 ghost use lib.Ieee.{nan};
-ghost use Rattle.binary32.specs.Words.{floatOf, wordOf};
-ghost use Rattle.binary32.specs.Order.{magnitudeOf, maxOf, minOf, clampOf};
-ghost use Rattle.binary32.specs.Floor.{floorOf};
-ghost use Rattle.binary32.specs.Places.{unsignedPlaceOf, signedPlaceOf};
-ghost use Rattle.binary32.specs.Quantize.{quantizedOf};
-ghost use Rattle.fields.specs.Upload.{uploadValueBits, uploadStepBits};
-ghost use Rattle.fields.specs.Colour.{colourOf};
-ghost use Rattle.fields.specs.Fixed.{fixedOf};
-ghost use Rattle.fields.specs.ShortFloat.{shortFloat};
+ghost use Rattle.binary32.specs.Binary32.{floatOf, wordOf, magnitudeOf, maxOf, minOf, clampOf, floorOf, unsignedPlaceOf, signedPlaceOf, quantizedOf};
+ghost use Rattle.fields.specs.Fields.{uploadValueBits, uploadStepBits, colourOf, fixedOf, shortFloat};
 ghost use Rattle.root.specs.Root.{rootOf};
 ghost use Rattle.vectors.specs.Vectors.{dotOf, crossOf, normalizedOf, rotateOf};
 

@@ -4,16 +4,14 @@ use native.Mathlib.Omega.{arith}
 use native.Mathlib.Numerals.{add-one}
 use mathlib.Core.Path.{_≡_, refl}
 use mathlib.Core.List.{List, [], _∷_}
-use mathlib.Core.Bool.{Bool, true, false, not, _&&_, false≢true}
+use mathlib.Core.Bool.{Bool, true, false, not, false≢true}
 use lib.ListN.{getD}
 use lib.Dec.{eqb}
 use mir.Val.{boolByte}
 use borrow.Author.Tests.{eqb-true, eqb-false, eq-eqb}
-use Rattle.decoding.specs.Comparing.{sameWords, differences}
-
-both-true : (a b : Bool) → (a && b) ≡ true → (a ≡ true) × (b ≡ true)
-both-true true b e = (refl, e)
-both-true false b e = absurd (false≢true e)
+use Rattle.flags.specs.FlagsLaws.{both-true}
+use Rattle.decoding.specs.Steps.{differences}
+use Rattle.sources.specs.Sources.{sameWords}
 
 pub same-equal : (a b : List ℕ) → sameWords a b ≡ true → a ≡ b
 unfolding sameWords

@@ -1,24 +1,27 @@
--- Decoding looks at no register but the 139 that are kept: every word that a definition reads is one of them. Assumes nothing.
+-- What callers need to know of `read`: it looks at no register but the 139 of `registersRead`, every word that a definition reads being one of
+-- them; and it is off or a lighting within the limits that packing asks for. Assumes nothing.
 use Prim.Native.Nat.{ℕ}
-use mathlib.Core.Path.{_≡_}
+use mathlib.Core.Path.{_≡_, _∙_, sym}
+use mathlib.Core.Bool.{Bool, true, false, cond}
 use mathlib.Core.List.{List}
 use native.Mathlib.Omega.{arith}
-use Rattle.decoding.specs.LightsClaims.{SameLights}
+use Rattle.lighting.specs.Lighting.{off}
+use Rattle.lighting.specs.declared.Lighting.{Lighting}
+use Rattle.lighting.specs.declared.OptionalLighting.{OptionalLighting}
+use Rattle.decoding.specs.Claims.{SameLights, SameKept, Limits}
 use Rattle.decoding.specs.SameLaws.{count-same, config-same, lights-same}
-use Rattle.decoding.specs.Tables.{lookupOf, lookupIf, lookupsOf}
-use Rattle.decoding.specs.Needs.{litLights, needsHalf, needsView}
-use Rattle.decoding.specs.Lighting.{lightingOf}
-use Rattle.decoding.specs.Decode.{lightingOn, decoded}
-use Rattle.decoding.specs.RegistersRead.{keptWords}
-use Rattle.decoding.specs.RegistersReadClaims.{SameKept}
+use Rattle.decoding.specs.Read.{lookup, table, read, registersRead}
+use Rattle.decoding.specs.Steps.{lookupsOf, litLights, needsHalf, needsView, lightingOf, lightingOn, readSteps}
 use Rattle.decoding.specs.KeptLaws.{kept-same}
+use Rattle.decoding.specs.LimitLaws.{lighting-limits}
+use Rattle.decoding.specs.ReadLaws.{read-law}
 
 module _ (f g : List ℕ) (s : SameKept f g) where
   same : SameLights f g
   same = record { blocks = s .blocks; slots = s .slots }
 
   lookups-same : lookupsOf f ≡ lookupsOf g
-  unfolding lookupsOf lookupIf lookupOf
+  unfolding lookupsOf table lookup
   lookups-same =
       simp (config-same f g same, s .blocks 132 (omega arith), s .tables 0 (omega arith), s .tables 1 (omega arith), s .tables 2 (omega arith))
 
@@ -27,9 +30,17 @@ module _ (f g : List ℕ) (s : SameKept f g) where
   lighting-same =
       simp (lookups-same, lights-same f g same, count-same f g same, config-same f g same, s .blocks 128 (omega arith), s .blocks 131 (omega arith))
 
-  decoded-from : decoded f ≡ decoded g
-  unfolding decoded lightingOn
-  decoded-from = rw (s .enable, s .disable, lighting-same)
+  steps-same : readSteps f ≡ readSteps g
+  unfolding readSteps lightingOn
+  steps-same = rw (s .enable, s .disable, lighting-same)
 
-pub decoded-same : (f g : List ℕ) → keptWords f ≡ keptWords g → decoded f ≡ decoded g
-decoded-same f g e = decoded-from f g (kept-same f g e)
+pub read-same : (f g : List ℕ) → registersRead f ≡ registersRead g → read f ≡ read g
+read-same f g e = read-law f ∙ steps-same f g (kept-same f g e) ∙ sym (read-law g)
+
+pub read-either : (P : OptionalLighting → Type 0) (f : List ℕ) → ((l : Lighting) → Limits l → P (record { on = true; lighting = l })) → P off → P (read f)
+unfolding readSteps
+read-either P f is-on is-off = rw (read-law f) (go (lightingOn f))
+  where
+    go : (b : Bool) → P (cond b (record { on = true; lighting = lightingOf f }) off)
+    go true = is-on (lightingOf f) (lighting-limits f)
+    go false = is-off

@@ -11,8 +11,8 @@ use lib.Dec.{leb}
 use lib.ListN.{length, getD, take, drop, length-append, length-take, length-drop}
 use lib.Seq.{getD-take, getD-drop}
 use Rattle.decoding.specs.Registers.{regEnable, regLights, regDisable, regTableAbsolute, registerOf}
-use Rattle.decoding.specs.RegistersRead.{keptWords}
-use Rattle.decoding.specs.RegistersReadClaims.{SameKept}
+use Rattle.decoding.specs.Read.{registersRead}
+use Rattle.decoding.specs.Claims.{SameKept}
 
 fronts : (a b r s : List ℕ) → length a ≡ length b → a ++ r ≡ b ++ s → (a ≡ b) × (r ≡ s)
 fronts [] [] r s n e = (refl, e)
@@ -33,8 +33,8 @@ part-same f g n from k e h =
     ∙ getD-take n (drop from g) k 0 h
     ∙ getD-drop from g k 0
 
-kept-length : (f : List ℕ) → length (keptWords f) ≡ 3 + min 133 (length f - 320) + min 3 (length f - 464)
-unfolding keptWords
+kept-length : (f : List ℕ) → length (registersRead f) ≡ 3 + min 133 (length f - 320) + min 3 (length f - 464)
+unfolding registersRead
 kept-length f = simp (length-append, length-take, length-drop) (omega arith)
 
 -- the tables' part is empty, or the lights' is whole
@@ -49,8 +49,8 @@ split-same : (a b c d : ℕ) → a ≤ 133 → c ≤ 133 → (b ≡ 0) ⊎ (a �
 split-same a b c d h k p q e =
     ⊎-elim (λ x. ⊎-elim (λ y. omega arith) (λ y. omega arith) q) (λ x. ⊎-elim (λ y. omega arith) (λ y. omega arith) q) p
 
-pub kept-same : (f g : List ℕ) → keptWords f ≡ keptWords g → SameKept f g
-unfolding keptWords
+pub kept-same : (f g : List ℕ) → registersRead f ≡ registersRead g → SameKept f g
+unfolding registersRead
 kept-same f g e =
     let total = sym (kept-length f) ∙ ap length e ∙ kept-length g in
     let long : length (take 133 (drop regLights f)) ≡ length (take 133 (drop regLights g)) =

@@ -2,49 +2,45 @@
 use Prim.Native.Nat.{ℕ, zero, suc, _+_, _≤_, _<_}
 use mathlib.Core.Path.{_≡_, refl}
 use mathlib.Core.Bool.{Bool, true, false, cond}
-use mathlib.Core.List.{List, [], _∷_}
+use mathlib.Core.List.{List}
 use native.Mathlib.Omega.{arith}
 use borrow.Author.Tests.{le-ltb}
 use lib.Dec.{T, ltb}
 use lib.ListN.{length, getD}
-use lib.Ieee.{Float, nan, binary32, fits}
-use lib.Ieee.Fits.{nan-fits}
+use lib.Ieee.{binary32, fits}
 use lib.Ieee.Bits.{ofBits-fits}
-use Rattle.fields.specs.Colour.{colourOf}
+use Rattle.fields.specs.Fields.{colourOf, shortFloat}
 use Rattle.fields.specs.ColourLaws.{field-fits}
 use Rattle.fields.specs.FixedLaws.{fixed-fits}
-use Rattle.fields.specs.ShortFloat.{shortFloat}
 use Rattle.fields.specs.ShortFloatLaws.{float-fits}
-use Rattle.vectors.specs.Vectors.{Vector}
-use Rattle.vectors.specs.VectorsLaws.{normalized-vector}
-use Rattle.lighting.specs.Blank.{zeroFloat, zeroVector, blankLight}
+use Rattle.vectors.specs.VectorsLaws.{three, normalized-vector}
+use Rattle.vectors.specs.Claims.{Vector}
+use Rattle.lighting.specs.Lighting.{zeroFloat, zeroVector, blankLight}
 use Rattle.lighting.specs.declared.Slot.{Slot}
 use Rattle.lighting.specs.declared.LightNumber.{LightNumber}
 use Rattle.lighting.specs.declared.Distance.the-variants.{Without, Scaled}
 use Rattle.lighting.specs.declared.Light.{Light}
+use Rattle.lighting.specs.Claims.{DistanceFits, LightFits}
 use Rattle.decoding.specs.Registers.{regConfig1, registerOf, flagOf}
-use Rattle.decoding.specs.Supported.{configOf}
-use Rattle.decoding.specs.LightsClaims.{DistanceFits, LightFits}
-use Rattle.decoding.specs.Slots.{countOf, lightNumberOf}
-use Rattle.decoding.specs.LightFields.{lightRegister, lightColour, positionOf, spotOf}
-use Rattle.decoding.specs.Lights.{distanceOf, lightOf, slotLight, lightsOf}
+use Rattle.decoding.specs.Read.{config, lightCount, lightNumber}
+use Rattle.decoding.specs.Steps.{lightRegister, lightColour, positionOf, spotOf, distanceOf, lightOf, slotLight, lightsOf}
 
 -- ---- counts and numbers
 
-pub count-low : (f : List ℕ) → 1 ≤ countOf f
-unfolding countOf
+pub count-low : (f : List ℕ) → 1 ≤ lightCount f
+unfolding lightCount
 count-low f = omega arith
 
-pub count-high : (f : List ℕ) → countOf f ≤ 8
-unfolding countOf
+pub count-high : (f : List ℕ) → lightCount f ≤ 8
+unfolding lightCount
 count-high f = omega arith
 
-pub config-lt : (f : List ℕ) → configOf f < 16
-unfolding configOf
+pub config-lt : (f : List ℕ) → config f < 16
+unfolding config
 config-lt f = omega arith
 
-pub number-lt : (f : List ℕ) (s : Slot) → lightNumberOf f s .0 < 8
-unfolding lightNumberOf
+pub number-lt : (f : List ℕ) (s : Slot) → lightNumber f s .0 < 8
+unfolding lightNumber
 number-lt f s = omega arith
 
 -- ---- the eight lights
@@ -65,16 +61,16 @@ light-at f (suc (suc (suc (suc (suc (suc zero)))))) d h = refl
 light-at f (suc (suc (suc (suc (suc (suc (suc zero))))))) d h = refl
 light-at f (suc (suc (suc (suc (suc (suc (suc (suc s)))))))) d h = absurd (omega arith)
 
-pub blank-beyond : (f : List ℕ) (s : Slot) → countOf f ≤ s .0 → slotLight f s ≡ blankLight
+pub blank-beyond : (f : List ℕ) (s : Slot) → lightCount f ≤ s .0 → slotLight f s ≡ blankLight
 unfolding slotLight
-blank-beyond f s h = rw (le-ltb (s .0) (countOf f) h)
+blank-beyond f s h = rw (le-ltb (s .0) (lightCount f) h)
 
 -- what holds of the blank light and of each light of the registers holds of the light in a slot
-slot-either : (P : Light → Type 0) (f : List ℕ) (s : Slot) → P (lightOf f (lightNumberOf f s)) → P blankLight → P (slotLight f s)
+slot-either : (P : Light → Type 0) (f : List ℕ) (s : Slot) → P (lightOf f (lightNumber f s)) → P blankLight → P (slotLight f s)
 unfolding slotLight
-slot-either P f s h k = go (ltb (s .0) (countOf f))
+slot-either P f s h k = go (ltb (s .0) (lightCount f))
   where
-    go : (b : Bool) → P (cond b (lightOf f (lightNumberOf f s)) blankLight)
+    go : (b : Bool) → P (cond b (lightOf f (lightNumber f s)) blankLight)
     go true = h
     go false = k
 
@@ -87,18 +83,9 @@ unfolding lightOf
 light-number f n h = h
 
 pub slot-number-lt : (f : List ℕ) (s : Slot) → slotLight f s .number .0 < 8
-slot-number-lt f s = slot-either (λ (l : Light). l .number .0 < 8) f s (light-number f (lightNumberOf f s) (number-lt f s)) blank-number
+slot-number-lt f s = slot-either (λ (l : Light). l .number .0 < 8) f s (light-number f (lightNumber f s) (number-lt f s)) blank-number
 
 -- ---- the floats
-
-three : (x y z : Float) → T (fits binary32 x) → T (fits binary32 y) → T (fits binary32 z) → Vector (x ∷ y ∷ z ∷ [])
-three x y z hx hy hz = record { long = refl; fit = each }
-  where
-    each : (i : ℕ) → T (fits binary32 (getD (x ∷ y ∷ z ∷ []) i nan))
-    each zero = hx
-    each (suc zero) = hy
-    each (suc (suc zero)) = hz
-    each (suc (suc (suc i))) = nan-fits binary32
 
 pub colour-vector : (w : ℕ) → Vector (colourOf w)
 unfolding colourOf
@@ -160,4 +147,4 @@ blank-fits =
     }
 
 pub slot-fits : (f : List ℕ) (s : Slot) → LightFits (slotLight f s)
-slot-fits f s = slot-either LightFits f s (light-fits f (lightNumberOf f s)) blank-fits
+slot-fits f s = slot-either LightFits f s (light-fits f (lightNumber f s)) blank-fits

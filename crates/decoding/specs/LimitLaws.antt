@@ -6,7 +6,7 @@ use mathlib.Core.List.{List}
 use native.Mathlib.Omega.{arith}
 use lib.Dec.{T, eqb}
 use lib.ListN.{getD}
-use lib.Ieee.{Float, binary32, ofBits, fits}
+use lib.Ieee.{Float, binary32, ofInt, ofBits, div, fits}
 use lib.Ieee.Bits.{ofBits-fits}
 use Rattle.lighting.specs.declared.OptionalLookup.the-variants.{Missing, Present}
 use Rattle.lighting.specs.declared.Bump.the-variants.{Flat, Normal, Tangent}
@@ -14,13 +14,9 @@ use Rattle.lighting.specs.declared.Shadow.{Shadow}
 use Rattle.lighting.specs.declared.OptionalShadow.the-variants.{Unshadowed, Shadowed}
 use Rattle.lighting.specs.declared.Light.{Light}
 use Rattle.decoding.specs.Registers.{regConfig1, regTableScale, registerOf, bitsOf, flagOf}
-use Rattle.decoding.specs.Supported.{configOf, supportedBy}
-use Rattle.decoding.specs.Lights.{lightsOf, slotLight}
+use Rattle.decoding.specs.Read.{config, supported, scaleOf, lookup, table, bump, shadow}
+use Rattle.decoding.specs.Steps.{lightsOf, slotLight, lookupsOf, needsHalf, needsView, lightingOf}
 use Rattle.decoding.specs.LightLaws.{count-low, count-high, config-lt, lights-length, light-at, blank-beyond, slot-number-lt, slot-fits, colour-vector}
-use Rattle.decoding.specs.Tables.{scaleOf, lookupOf, lookupIf, lookupsOf}
-use Rattle.decoding.specs.Settings.{bumpOf, shadowOf}
-use Rattle.decoding.specs.Needs.{needsHalf, needsView}
-use Rattle.decoding.specs.Lighting.{lightingOf}
 use Rattle.decoding.specs.Claims.{LookupLimits, OptionalLookupLimits, BumpLimits, ShadowLimits, LightLimits, Limits}
 
 -- what holds of 1, 2, 4, 8, 0, 0.25 and 0.5 holds of every code's scale
@@ -34,7 +30,7 @@ pub scale-each : (P : Float → Type 0)
     → P (ofBits binary32 0x3F000000)
     → (code : ℕ)
     → P (scaleOf code)
-unfolding scaleOf
+unfolding scaleOf ofInt ofBits div
 scale-each P one two four eight none quarter half zero = one
 scale-each P one two four eight none quarter half (suc zero) = two
 scale-each P one two four eight none quarter half (suc (suc zero)) = four
@@ -56,24 +52,24 @@ scale-fits =
     (ofBits-fits binary32 _)
     (ofBits-fits binary32 _)
 
-pub lookup-limits : (f : List ℕ) (field : ℕ) → LookupLimits (lookupOf f field)
-unfolding lookupOf
+lookup-limits : (f : List ℕ) (field : ℕ) → LookupLimits (lookup f field)
+unfolding lookup
 lookup-limits f field =
     record {
       input = omega arith;
       scale = record { code = bitsOf (registerOf f regTableScale) (field * 4) 3; small = omega arith; is = refl };
     }
 
-pub table-limits : (f : List ℕ) (table disabled field : ℕ) → OptionalLookupLimits (lookupIf f table disabled field)
-unfolding lookupIf
-table-limits f table disabled field = go (not (flagOf (registerOf f regConfig1) disabled) && supportedBy (configOf f) table)
+table-limits : (f : List ℕ) (number disabled field : ℕ) → OptionalLookupLimits (table f number disabled field)
+unfolding table
+table-limits f number disabled field = go (not (flagOf (registerOf f regConfig1) disabled) && supported (config f) number)
   where
-    go : (b : Bool) → OptionalLookupLimits (cond b (Present (lookupOf f field)) Missing)
+    go : (b : Bool) → OptionalLookupLimits (cond b (Present (lookup f field)) Missing)
     go true = lookup-limits f field
     go false = tt
 
-pub bump-limits : (w : ℕ) → BumpLimits (bumpOf w)
-unfolding bumpOf
+bump-limits : (w : ℕ) → BumpLimits (bump w)
+unfolding bump
 bump-limits w = go (eqb (bitsOf w 28 2) 1) (eqb (bitsOf w 28 2) 2)
   where
     go : (a b : Bool) → BumpLimits (cond a (Normal (bitsOf w 22 2) (not (flagOf w 30))) (cond b (Tangent (bitsOf w 22 2)) Flat))
@@ -81,15 +77,15 @@ bump-limits w = go (eqb (bitsOf w 28 2) 1) (eqb (bitsOf w 28 2) 2)
     go false true = omega arith
     go false false = tt
 
-pub shadow-limits : (w : ℕ) → ShadowLimits (shadowOf w)
-unfolding shadowOf
+shadow-limits : (w : ℕ) → ShadowLimits (shadow w)
+unfolding shadow
 shadow-limits w = go (flagOf w 0) _ (omega arith)
   where
     go : (b : Bool) (s : Shadow) → s .unit ≤ 3 → ShadowLimits (cond b (Shadowed s) Unshadowed)
     go true s h = h
     go false s h = tt
 
-pub half-needs-view : (f : List ℕ) → needsHalf f ≡ true → needsView f ≡ true
+half-needs-view : (f : List ℕ) → needsHalf f ≡ true → needsView f ≡ true
 unfolding needsView
 half-needs-view f e = rw e refl
 

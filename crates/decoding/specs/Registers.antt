@@ -1,9 +1,11 @@
--- A register file as the list of its words, the registers that decoding reads by name, and the bits of a word. Definitions only.
+-- The registers that `Lighting::read` takes, by the Rust's constants and in their order; and its ways into a file and a word. Definitions only.
 use Prim.Native.Nat.{ℕ, _/_, _%_, _^_}
 use mathlib.Core.Bool.{Bool}
 use mathlib.Core.List.{List}
 use lib.ListN.{getD}
 use lib.Dec.{eqb}
+
+-- ---- The registers
 
 -- bit 0: lighting is on
 abbrev pub regEnable : ℕ
@@ -47,14 +49,16 @@ regTableScale = 0x1D2
 abbrev pub regLightSlots : ℕ
 regLightSlots = 0x1D9
 
--- the word of register r; one that the file is too short to have reads as 0
+-- ---- Words and bits
+
+-- registers[r]; a register that the file is too short to have reads as 0
 abbrev pub registerOf : List ℕ → ℕ → ℕ
 registerOf f r = getD f r 0
 
--- `width` bits of a word, from bit `from` on
+-- (w >> from) & ((1 << width) − 1)
 abbrev pub bitsOf : ℕ → ℕ → ℕ → ℕ
 bitsOf w from width = w / 2 ^ from % 2 ^ width
 
--- whether bit `at` of a word is set
+-- w & (1 << at) != 0
 abbrev pub flagOf : ℕ → ℕ → Bool
 flagOf w at = eqb (bitsOf w at 1) 1

@@ -6,24 +6,22 @@ use native.Mathlib.Omega.{arith}
 use Rattle.lighting.specs.declared.Slot.{Slot}
 use Rattle.lighting.specs.declared.LightNumber.{LightNumber}
 use Rattle.decoding.specs.Registers.{regLights}
-use Rattle.decoding.specs.Supported.{configOf}
-use Rattle.decoding.specs.Slots.{countOf, lightNumberOf}
-use Rattle.decoding.specs.LightFields.{lightRegister, lightColour, positionOf, spotOf}
-use Rattle.decoding.specs.Lights.{distanceOf, spotlitOf, lightOf, slotLight, lightsOf}
-use Rattle.decoding.specs.LightsClaims.{SameLights}
+use Rattle.decoding.specs.Read.{config, lightCount, lightNumber}
+use Rattle.decoding.specs.Steps.{lightRegister, lightColour, positionOf, spotOf, distanceOf, spotlitOf, lightOf, slotLight, lightsOf}
+use Rattle.decoding.specs.Claims.{SameLights}
 use Rattle.decoding.specs.LightLaws.{number-lt}
 
 module _ (f g : List ℕ) (s : SameLights f g) where
-  pub count-same : countOf f ≡ countOf g
-  unfolding countOf
+  pub count-same : lightCount f ≡ lightCount g
+  unfolding lightCount
   count-same = rw (s .blocks 130 (omega arith))
 
-  pub config-same : configOf f ≡ configOf g
-  unfolding configOf
+  pub config-same : config f ≡ config g
+  unfolding config
   config-same = rw (s .blocks 131 (omega arith))
 
-  number-same : (slot : Slot) → lightNumberOf f slot ≡ lightNumberOf g slot
-  unfolding lightNumberOf
+  number-same : (slot : Slot) → lightNumber f slot ≡ lightNumber g slot
+  unfolding lightNumber
   number-same slot = rw (s .slots)
 
   register-same : (n : LightNumber) (offset : ℕ) → n .0 < 8 → offset < 16 → lightRegister f n offset ≡ lightRegister g n offset
@@ -53,7 +51,7 @@ module _ (f g : List ℕ) (s : SameLights f g) where
 
   slot-same : (slot : Slot) → slotLight f slot ≡ slotLight g slot
   unfolding slotLight
-  slot-same slot = rw (count-same, number-same slot, light-same (lightNumberOf g slot) (number-lt g slot))
+  slot-same slot = rw (count-same, number-same slot, light-same (lightNumber g slot) (number-lt g slot))
 
   pub lights-same : lightsOf f ≡ lightsOf g
   unfolding lightsOf

@@ -5,7 +5,7 @@ use lighting::Bump;
 use lighting::OptionalShadow;
 use lighting::Shadow;
 ghost use mathlib.Core.Path.{_≡_};
-ghost use Rattle.decoding.specs.Settings.{bumpOf, shadowOf};
+ghost use Rattle.decoding.specs.Read.{bump as bumpOf, shadow as shadowOf};
 
 // Bits 28 and 29 say which kind.
 pub(crate) fn bump(config0: u32) -> Bump

@@ -2,26 +2,13 @@
 use crate::registers::REG_CONFIG0;
 use crate::registers::bits;
 use crate::registers::register;
+use lighting::tables::DISTRIBUTION0;
+use lighting::tables::DISTRIBUTION1;
+use lighting::tables::FRESNEL;
+use lighting::tables::REFLECT_RED;
+use lighting::tables::SPOTLIGHT;
 ghost use mathlib.Core.Path.{_≡_};
-ghost use Rattle.decoding.specs.Supported.{configOf, supportedBy};
-
-// The tables, by number.
-pub const DISTRIBUTION0: u32 = 0;
-
-pub const DISTRIBUTION1: u32 = 1;
-
-pub const FRESNEL: u32 = 3;
-
-pub const REFLECT_BLUE: u32 = 4;
-
-pub const REFLECT_GREEN: u32 = 5;
-
-pub const REFLECT_RED: u32 = 6;
-
-// eight for the spotlights and eight for the distances, by the light's number
-pub const SPOTLIGHT: u32 = 8;
-
-pub const DISTANCE: u32 = 16;
+ghost use Rattle.decoding.specs.Read.{config as configOf, supported as supportedOf};
 
 pub(crate) fn configuration(file: &[u32]) -> u32
     ensures { λ r. ⌜ r ≡ configOf (now (file .entry)) ⌝ }
@@ -31,7 +18,7 @@ pub(crate) fn configuration(file: &[u32]) -> u32
 
 // Which tables a lighting configuration has room for.
 pub(crate) fn supported(config: u32, table: u32) -> bool
-    ensures { λ r. ⌜ r ≡ supportedBy config table ⌝ }
+    ensures { λ r. ⌜ r ≡ supportedOf config table ⌝ }
 {
     match table {
         DISTRIBUTION0 => config != 1,

@@ -1,6 +1,8 @@
-// From a register file to the lighting of a draw, or off.
+// From a register file to the lighting of a draw, or off. To be read in the order of the data: `registers` has a file's words and their bits, `configuration` which tables
+// there is room for, `slots` which light each slot holds, `light_fields` and `lights` a light, `table_lookups` how each table is read, `bump_shadow`, `needs` what half and
+// view are needed for, `register_lighting` all of it; `registers_read` the words that are kept of a file.
 mod bump_shadow;
-pub mod configuration;
+mod configuration;
 mod light_fields;
 mod lights;
 mod needs;
@@ -11,6 +13,8 @@ mod slots;
 mod table_lookups;
 
 use crate::register_lighting::lighting;
+use crate::registers::REG_DISABLE;
+use crate::registers::REG_ENABLE;
 use crate::registers::flag;
 use crate::registers::register;
 use lighting::OptionalLighting;
@@ -18,12 +22,8 @@ use lighting::blank_lighting;
 use refusals::Outcome;
 use refusals::Refusal;
 ghost use mathlib.Core.Path.{_≡_};
-ghost use Rattle.lighting.specs.Blank.{off as offOf};
-ghost use Rattle.decoding.specs.Decode.{decoded, answerOf, readOf};
-
-const REG_ENABLE: usize = 0x08F;
-
-const REG_DISABLE: usize = 0x1C6;
+ghost use Rattle.lighting.specs.Lighting.{off as offOf};
+ghost use Rattle.decoding.specs.Read.{read as readOf, fileRead, fileReadOf};
 
 fn off() -> OptionalLighting
     ensures { λ r. ⌜ r ≡ offOf ⌝ }
@@ -36,7 +36,7 @@ fn off() -> OptionalLighting
 
 // The lighting of a register file, or off. A file too short to hold a register is taken to hold 0 there.
 pub fn decode(file: &[u32]) -> OptionalLighting
-    ensures { λ r. ⌜ r ≡ decoded (now (file .entry)) ⌝ }
+    ensures { λ r. ⌜ r ≡ readOf (now (file .entry)) ⌝ }
 {
     if flag(register(file, REG_ENABLE), 0) & !flag(register(file, REG_DISABLE), 0) {
         OptionalLighting {
@@ -54,8 +54,8 @@ pub struct LightingRead {
     pub decoded: OptionalLighting,
 }
 
-fn read(file: &[u32]) -> LightingRead
-    ensures { λ r. ⌜ answerOf r ≡ readOf (now (file .entry)) ⌝ }
+pub fn read(file: &[u32]) -> LightingRead
+    ensures { λ r. ⌜ fileReadOf r ≡ fileRead (now (file .entry)) ⌝ }
 {
     if file.len() < 474 {
         LightingRead {

@@ -1,4 +1,5 @@
 // The words of a light's block, and the vectors that they hold.
+use crate::registers::REG_LIGHTS;
 use crate::registers::register;
 use fields::color;
 use fields::fixed;
@@ -6,10 +7,7 @@ use fields::short_floats::half;
 use lighting::LightNumber;
 ghost use mathlib.Core.Path.{_≡_};
 ghost use Prim.Native.Nat.{_<_};
-ghost use Rattle.decoding.specs.LightFields.{lightRegister, lightColour, positionOf, spotOf};
-
-// The first word of light 0's block.
-const REG_LIGHTS: usize = 0x140;
+ghost use Rattle.decoding.specs.Steps.{lightRegister, lightColour, positionOf, spotOf};
 
 // The word at an offset in a light's block.
 pub(crate) fn light_register(file: &[u32], number: LightNumber, offset: usize) -> u32

@@ -1,5 +1,4 @@
 // The lights that a register file sets up, each in its slot.
-use crate::configuration::SPOTLIGHT;
 use crate::configuration::configuration;
 use crate::configuration::supported;
 use crate::light_fields::light_color;
@@ -17,10 +16,11 @@ use lighting::Light;
 use lighting::LightNumber;
 use lighting::Slot;
 use lighting::blank_light;
+use lighting::tables::SPOTLIGHT;
 use vectors::normalized;
 ghost use mathlib.Core.Path.{_≡_};
 ghost use Prim.Native.Nat.{_<_};
-ghost use Rattle.decoding.specs.Lights.{distanceOf, spotlitOf, lightOf, slotLight, lightsOf};
+ghost use Rattle.decoding.specs.Steps.{distanceOf, spotlitOf, lightOf, slotLight, lightsOf};
 
 // The bit that takes the distance away is that of the light's number, whatever its slot.
 fn distance(file: &[u32], number: LightNumber) -> Distance

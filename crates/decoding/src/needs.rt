@@ -1,23 +1,26 @@
 // What the lights on and the lookups that are read need: the half vector, and the unit vector toward the viewer.
-use crate::table_lookups::TableLookups;
 use lighting::Light;
 use lighting::OptionalLookup;
+use lighting::Slot;
+use lighting::TableLookups;
 ghost use mathlib.Core.Path.{_≡_};
 ghost use Prim.Native.Nat.{_≤_};
 ghost use lib.ListN.{take};
-ghost use Rattle.decoding.specs.Needs.{anyLight, hasSpotlight, isGeometric, inputHalf, inputView, lookupHalf, lookupView, halfInput, viewInput};
+ghost use Rattle.decoding.specs.Read.{any as anyOf};
+ghost use Rattle.decoding.specs.Steps.{hasSpotlight, isGeometric, inputHalf, inputView, lookupHalf, lookupView, halfInput, viewInput};
 
 // Whether a light on has a spotlight.
 pub(crate) fn any_spotlight(lights: [Light; 8], count: usize) -> bool
     requires { ⌜ count ≤ 8 ⌝ }
-    ensures { λ r. ⌜ r ≡ anyLight hasSpotlight (take count lights) ⌝ }
+    ensures { λ r. ⌜ r ≡ anyOf hasSpotlight (take count lights) ⌝ }
 {
     let mut any = false;
-    let mut slot = 0;
-    while slot < count {
-        let light = lights[slot];
+    let mut slot = Slot(0);
+    while slot.0 < count {
+        let at = slot.0;
+        let light = lights[at];
         any = any | light.spotlight;
-        slot += 1;
+        slot.0 += 1;
     }
     any
 }
@@ -25,14 +28,15 @@ pub(crate) fn any_spotlight(lights: [Light; 8], count: usize) -> bool
 // Whether a light on has a geometric factor.
 pub(crate) fn any_geometric(lights: [Light; 8], count: usize) -> bool
     requires { ⌜ count ≤ 8 ⌝ }
-    ensures { λ r. ⌜ r ≡ anyLight isGeometric (take count lights) ⌝ }
+    ensures { λ r. ⌜ r ≡ anyOf isGeometric (take count lights) ⌝ }
 {
     let mut any = false;
-    let mut slot = 0;
-    while slot < count {
-        let light = lights[slot];
+    let mut slot = Slot(0);
+    while slot.0 < count {
+        let at = slot.0;
+        let light = lights[at];
         any = any | (light.geometric0 | light.geometric1);
-        slot += 1;
+        slot.0 += 1;
     }
     any
 }

@@ -8,6 +8,7 @@ use crate::needs::any_spotlight;
 use crate::needs::half_input;
 use crate::needs::view_input;
 use crate::registers::REG_CONFIG0;
+use crate::registers::REG_GLOBAL_AMBIENT;
 use crate::registers::flag;
 use crate::registers::register;
 use crate::slots::light_count;
@@ -15,9 +16,7 @@ use crate::table_lookups::lookups;
 use fields::color;
 use lighting::Lighting;
 ghost use mathlib.Core.Path.{_≡_};
-ghost use Rattle.decoding.specs.Lighting.{lightingOf};
-
-const REG_GLOBAL_AMBIENT: usize = 0x1C0;
+ghost use Rattle.decoding.specs.Steps.{lightingOf};
 
 // The lighting that the registers set up, whether or not it is on.
 pub(crate) fn lighting(file: &[u32]) -> Lighting

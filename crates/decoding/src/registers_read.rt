@@ -1,10 +1,18 @@
-// The words that decoding takes from a register file: compared with the kept ones, and kept.
+// The registers that `read` takes: compared with the kept ones, and kept.
+use crate::registers::REG_DISABLE;
+use crate::registers::REG_ENABLE;
+use crate::registers::REG_LIGHT_SLOTS;
+use crate::registers::REG_LIGHTS;
+use crate::registers::REG_TABLE_ABSOLUTE;
+use crate::registers::REG_TABLE_INPUT;
+use crate::registers::REG_TABLE_SCALE;
 ghost use mathlib.Core.Path.{_≡_};
 ghost use mathlib.Core.Bool.{_&&_};
 ghost use Prim.Native.Nat.{_+_, _≤_};
 ghost use lib.ListN.{length};
-ghost use Rattle.decoding.specs.RegistersRead.{keptWords};
-ghost use Rattle.decoding.specs.Comparing.{sameWords, differences};
+ghost use Rattle.decoding.specs.Read.{registersRead};
+ghost use Rattle.decoding.specs.Steps.{differences};
+ghost use Rattle.sources.specs.Sources.{sameWords};
 
 // How many of `count` words differ, from `from` on in the file and from `at` on in the kept words. It looks at all of them: that is
 // quicker than to stop at the first.
@@ -21,35 +29,38 @@ fn differing(file: &[u32], from: usize, kept: &[u32; 139], at: usize, count: usi
     found
 }
 
-// Whether the words that decoding takes are the kept ones.
+// Whether the words that `read` takes are the kept ones.
+// Asks: a file that its caller has not refused, so that no word is tested for being there.
 pub fn current(file: &[u32], filled: bool, kept: &[u32; 139]) -> bool
     requires { ⌜ (474 ≤ length (now file)) × (length (now kept) ≡ 139) ⌝ }
-    ensures { λ r. ⌜ r ≡ (filled && sameWords (now (kept .entry)) (keptWords (now (file .entry)))) ⌝ }
+    ensures { λ r. ⌜ r ≡ (filled && sameWords (now (kept .entry)) (registersRead (now (file .entry)))) ⌝ }
 {
-    let enable = differing(file, 0x08F, kept, 0, 1);
-    let lights = differing(file, 0x140, kept, 1, 133);
-    let disable = differing(file, 0x1C6, kept, 134, 1);
-    let tables = differing(file, 0x1D0, kept, 135, 3);
-    let slots = differing(file, 0x1D9, kept, 138, 1);
+    let enable = differing(file, REG_ENABLE, kept, 0, 1);
+    let lights = differing(file, REG_LIGHTS, kept, 1, 133);
+    let disable = differing(file, REG_DISABLE, kept, 134, 1);
+    let tables = differing(file, REG_TABLE_ABSOLUTE, kept, 135, 3);
+    let slots = differing(file, REG_LIGHT_SLOTS, kept, 138, 1);
     filled & (enable + lights + disable + tables + slots == 0)
 }
 
-// The words that decoding takes.
-pub fn kept_words(file: &[u32]) -> [u32; 139]
+// The words that `read` takes, of all the lights whichever it decodes.
+// Asks: as `current`.
+pub fn registers_read(file: &[u32]) -> [u32; 139]
     requires { ⌜ 474 ≤ length (now file) ⌝ }
-    ensures { λ r. ⌜ r ≡ keptWords (now (file .entry)) ⌝ }
+    ensures { λ r. ⌜ r ≡ registersRead (now (file .entry)) ⌝ }
 {
     let mut kept = [0; 139];
-    kept[0] = file[0x08F];
+    kept[0] = file[REG_ENABLE];
+    // from REG_LIGHTS on
     let mut j = 1;
     while j < 134 {
         kept[j] = file[0x13F + j];
         j += 1;
     }
-    kept[134] = file[0x1C6];
-    kept[135] = file[0x1D0];
-    kept[136] = file[0x1D1];
-    kept[137] = file[0x1D2];
-    kept[138] = file[0x1D9];
+    kept[134] = file[REG_DISABLE];
+    kept[135] = file[REG_TABLE_ABSOLUTE];
+    kept[136] = file[REG_TABLE_INPUT];
+    kept[137] = file[REG_TABLE_SCALE];
+    kept[138] = file[REG_LIGHT_SLOTS];
     kept
 }

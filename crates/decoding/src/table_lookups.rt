@@ -1,27 +1,26 @@
 // How each table of a draw is read.
-use crate::configuration::DISTRIBUTION0;
-use crate::configuration::DISTRIBUTION1;
-use crate::configuration::FRESNEL;
-use crate::configuration::REFLECT_BLUE;
-use crate::configuration::REFLECT_GREEN;
-use crate::configuration::REFLECT_RED;
 use crate::configuration::configuration;
 use crate::configuration::supported;
 use crate::registers::REG_CONFIG1;
+use crate::registers::REG_TABLE_ABSOLUTE;
+use crate::registers::REG_TABLE_INPUT;
+use crate::registers::REG_TABLE_SCALE;
 use crate::registers::bits;
 use crate::registers::flag;
 use crate::registers::register;
 use lighting::Lookup;
 use lighting::OptionalLookup;
+use lighting::TableLookups;
+use lighting::tables::DISTRIBUTION0;
+use lighting::tables::DISTRIBUTION1;
+use lighting::tables::FRESNEL;
+use lighting::tables::REFLECT_BLUE;
+use lighting::tables::REFLECT_GREEN;
+use lighting::tables::REFLECT_RED;
 ghost use mathlib.Core.Path.{_≡_};
 ghost use Prim.Native.Nat.{_<_};
-ghost use Rattle.decoding.specs.Tables.{scaleOf, lookupOf, lookupIf, lookupsOf};
-
-const REG_TABLE_ABSOLUTE: usize = 0x1D0;
-
-const REG_TABLE_INPUT: usize = 0x1D1;
-
-const REG_TABLE_SCALE: usize = 0x1D2;
+ghost use Rattle.decoding.specs.Read.{scaleOf, lookup as lookupOf, table as tableOf};
+ghost use Rattle.decoding.specs.Steps.{lookupsOf};
 
 // What the scale codes mean.
 const SCALES: [f32; 8] = [1.0, 2.0, 4.0, 8.0, 0.0, 0.0, 0.25, 0.5];
@@ -48,7 +47,7 @@ fn lookup(file: &[u32], field: u32) -> Lookup
 // The lookup of a table that its bit of 1C4 doesn't disable and the configuration has room for.
 fn table(file: &[u32], table: u32, disabled: u32, field: u32) -> OptionalLookup
     requires { ⌜ field < 7 ⌝ }
-    ensures { λ r. ⌜ r ≡ lookupIf (now (file .entry)) table disabled field ⌝ }
+    ensures { λ r. ⌜ r ≡ tableOf (now (file .entry)) table disabled field ⌝ }
 {
     if !flag(register(file, REG_CONFIG1), disabled) & supported(configuration(file), table) {
         OptionalLookup::Present(lookup(file, field))
@@ -58,16 +57,6 @@ fn table(file: &[u32], table: u32, disabled: u32, field: u32) -> OptionalLookup
 }
 
 // The tables of a draw.
-pub struct TableLookups {
-    pub distribution0: OptionalLookup,
-    pub distribution1: OptionalLookup,
-    pub fresnel: OptionalLookup,
-    pub reflect_red: OptionalLookup,
-    pub reflect_green: OptionalLookup,
-    pub reflect_blue: OptionalLookup,
-    pub spotlight: Lookup,
-}
-
 pub(crate) fn lookups(file: &[u32]) -> TableLookups
     ensures { λ r. ⌜ r ≡ lookupsOf (now (file .entry)) ⌝ }
 {

@@ -3,10 +3,7 @@ use mathlib.Core.Bool.{true, false}
 use mathlib.Core.Path.{_≡_, refl}
 use lib.IntN.{pos, negsuc}
 use lib.Ieee.{fin, binary32, div, neg, ofInt, ofBits, toBits}
-use Rattle.fields.specs.Upload.{uploadValue, uploadMagnitude, uploadStep, uploadValueBits, uploadStepBits}
-use Rattle.fields.specs.Colour.{colourChannel, colourField}
-use Rattle.fields.specs.Fixed.{signed13, fixedOf}
-use Rattle.fields.specs.ShortFloat.{shortExponent, shortSign, shortWord, shortFloat}
+use Rattle.fields.specs.Fields.{uploadValue, uploadMagnitude, uploadStep, uploadValueBits, uploadStepBits, colourChannel, colourField, signed13, fixedOf, shortExponent, shortSign, shortWord, shortFloat}
 
 half-3C00 : shortFloat 10 5 0x3C00 ≡ ofInt binary32 (pos 1)
 unfolding shortFloat shortWord shortSign shortExponent ofBits ofInt

@@ -3,7 +3,7 @@ use Prim.Native.Nat.{ℕ}
 use lib.Dec.{T}
 use lib.Ieee.{binary32, fits}
 use lib.Ieee.Fits.{div-fits}
-use Rattle.fields.specs.Colour.{colourChannel, colourField}
+use Rattle.fields.specs.Fields.{colourChannel, colourField}
 
 pub channel-fits : (n : ℕ) → T (fits binary32 (colourChannel n))
 unfolding colourChannel

@@ -3,7 +3,7 @@ use Prim.Native.Nat.{ℕ}
 use lib.Dec.{T}
 use lib.Ieee.{binary32, fits}
 use lib.Ieee.Fits.{div-fits}
-use Rattle.fields.specs.Fixed.{fixedOf}
+use Rattle.fields.specs.Fields.{fixedOf}
 
 pub fixed-fits : (w : ℕ) → T (fits binary32 (fixedOf w))
 unfolding fixedOf

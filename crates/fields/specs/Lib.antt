@@ -1,7 +1,5 @@
-pub mod Upload
-pub mod Colour
-pub mod Fixed
-pub mod ShortFloat
+pub mod Fields
+pub mod Steps
 pub mod QuotientLaws
 pub mod UploadLaws
 pub mod ColourLaws

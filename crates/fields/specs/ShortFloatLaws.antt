@@ -8,7 +8,7 @@ use lib.Dec.{T, eqb}
 use lib.Pow.{pow-pos, pow-mono, shl-lt}
 use lib.Ieee.{binary32, fits}
 use lib.Ieee.Bits.{ofBits-fits}
-use Rattle.fields.specs.ShortFloat.{shortExponent, shortWord, shortFloat}
+use Rattle.fields.specs.Fields.{shortExponent, shortWord, shortFloat}
 
 -- ---- the widths, and powers at them
 
@@ -39,9 +39,3 @@ mantissa-lt m n high =
 pub float-fits : (m e n : ℕ) → T (fits binary32 (shortFloat m e n))
 unfolding shortFloat
 float-fits m e n = ofBits-fits binary32 (shortWord m e n)
-
--- ---- bits above the sign are ignored
-
--- the m lowest bits, and the e bits above them
-order : (m e : ℕ) → 1 + (m + e) ≡ 1 + e + m
-order m e = omega arith

@@ -5,8 +5,7 @@ pub mod upload;
 ghost use mathlib.Core.Path.{_≡_};
 ghost use Prim.Native.Nat.{_<_};
 ghost use lib.Ieee.{binary32, ofInt};
-ghost use Rattle.fields.specs.Colour.{colourChannel, colourOf};
-ghost use Rattle.fields.specs.Fixed.{signed13, fixedOf};
+ghost use Rattle.fields.specs.Fields.{colourChannel, colourOf, signed13, fixedOf};
 
 // What a colour field's 10 bits stand for, 255 being one.
 fn colour_channel(field: u32) -> f32

@@ -1,7 +1,8 @@
 // Short floats: the half and the 20-bit float.
 ghost use mathlib.Core.Path.{_≡_};
 ghost use Prim.Native.Nat.{_^_, _≤_, _<_};
-ghost use Rattle.fields.specs.ShortFloat.{ShortWidths, shortExponent, shortWord, shortFloat};
+ghost use Rattle.fields.specs.Steps.{ShortWidths};
+ghost use Rattle.fields.specs.Fields.{shortExponent, shortWord, shortFloat};
 
 // 2 to the k: the compiler makes shifts and masks of products, quotients and remainders by it.
 fn power(k: u32) -> u32

@@ -1,6 +1,6 @@
 // The value and the step of a word of table data, and their bits.
 ghost use mathlib.Core.Path.{_≡_};
-ghost use Rattle.fields.specs.Upload.{uploadValue, uploadStep, uploadValueBits, uploadStepBits};
+ghost use Rattle.fields.specs.Fields.{uploadValue, uploadStep, uploadValueBits, uploadStepBits};
 
 // The value of a table's entry, from a word of table data.
 fn upload_value(word: u32) -> f32

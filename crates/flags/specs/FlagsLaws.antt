@@ -1,7 +1,19 @@
--- Where neither of two flags is set, both are clear: by cases on the first. Assumes nothing.
-use mathlib.Core.Path.{_≡_, refl}
-use mathlib.Core.Bool.{Bool, true, false, _||_, true≢false}
+-- What two flags tell of each other and together, each law by cases on the first. Assumes nothing.
+use mathlib.Core.Path.{_≡_, refl, sym}
+use mathlib.Core.Bool.{Bool, true, false, _||_, _&&_, true≢false, false≢true}
 
+-- where neither is set, each is clear
 pub neither : (a b : Bool) → (a || b) ≡ false → (a ≡ false) × (b ≡ false)
 neither true b h = absurd (true≢false h)
 neither false b h = (refl, h)
+
+-- where both are set, each is
+pub both-true : (a b : Bool) → (a && b) ≡ true → (a ≡ true) × (b ≡ true)
+both-true true b h = (refl, h)
+both-true false b h = absurd (false≢true h)
+
+-- two that imply each other are the same
+pub alike : (a b : Bool) → (a ≡ true → b ≡ true) → (b ≡ true → a ≡ true) → a ≡ b
+alike true b f g = sym (f refl)
+alike false true f g = g refl
+alike false false f g = refl

@@ -1,6 +1,2 @@
-pub mod Values
-pub mod Terms
-pub mod Sums
-pub mod Lookups
+pub mod Steps
 pub mod ReadingsLaws
-pub mod Step

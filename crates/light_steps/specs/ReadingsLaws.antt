@@ -1,5 +1,5 @@
 -- The tables are read in three steps: where (`distance`, `readings`), what the entries there give (`entries`), and what is made of them (`values`).
--- The steps give the values of `Lookups`: each goes by the same cases. A light that reads no table but its distance table has 1 for every other value.
+-- The steps give the values of the lookups: each goes by the same cases. A light that reads no table but its distance table has 1 for every other value.
 -- Assumes nothing.
 use Prim.Native.Nat.{ℕ, _+_, _<_}
 use native.Mathlib.Omega.{arith}
@@ -8,7 +8,7 @@ use mathlib.Core.List.{List}
 use mathlib.Core.Bool.{Bool, true, false, cond, true≢false}
 use lib.Ieee.{Float}
 use Rattle.flags.specs.FlagsLaws.{neither}
-use Rattle.binary32.specs.Numbers.{float1}
+use Rattle.binary32.specs.Binary32.{float1}
 use Rattle.lighting.specs.declared.Light.{Light}
 use Rattle.lighting.specs.declared.LightNumber.{LightNumber}
 use Rattle.lighting.specs.declared.Lookup.{Lookup}
@@ -17,20 +17,14 @@ use Rattle.lighting.specs.declared.OptionalLookup.the-variants.{Missing, Presen
 use Rattle.lighting.specs.declared.Distance.{Distance}
 use Rattle.lighting.specs.declared.Distance.the-variants.{Without, Scaled}
 use Rattle.surface.specs.declared.types.Frame.{Frame}
-use Rattle.surface.specs.declared.types.Toward.{Toward}
-use Rattle.light_tables.specs.Toward.{awayOf}
-use Rattle.light_tables.specs.Way.{wayTo}
-use Rattle.light_tables.specs.AwayLaws.{away-is}
-use Rattle.surface.specs.declared.types.Lookups.{Lookups}
+use Rattle.surface.specs.declared.types.Directions.{Directions}
+use Rattle.light_tables.specs.Steps.{offsetNorm, rayTo, tableFor, readingBy, readingIf, spotReading, fresnelReading, readingsBy, readingsOf, readValue, readAll, distanceReadingBy}
+use Rattle.light_tables.specs.RayLaws.{norm-is}
+use Rattle.surface.specs.declared.types.LightingLookups.{LightingLookups}
 use Rattle.surface.specs.declared.types.Reading.the-variants.{Unread}
 use Rattle.vectors.specs.Vectors.{_⊗_}
-use Rattle.decoding.specs.Supported.{tableFresnel}
-use Rattle.light_tables.specs.Places.{tableFor, readingBy, readingIf}
-use Rattle.light_steps.specs.Values.{present, readsTables, scaledIf, spotScaled, fresnelScaled, valuesFrom, unread}
-use Rattle.light_steps.specs.Lookups.{valueOf, valueIf, spotValue, fresnelValue, distanceBy, distanceValue, valuesBy, valuesOf, distanceReading}
-use Rattle.light_tables.specs.Readings.{spotReading, fresnelReading, readingsBy, readingsOf}
-use Rattle.light_tables.specs.Entries.{readValue, readAll}
-use Rattle.light_tables.specs.Distance.{distanceReadingBy}
+use Rattle.lighting.specs.Lighting.{tableFresnel}
+use Rattle.light_steps.specs.Steps.{present, readsTables, scaledIf, spotScaled, fresnelScaled, valuesFrom, unread, lookupValue, valueIf, spotValue, fresnelValue, distanceBy, distanceValue, valuesBy, valuesOf, distanceReading}
 
 table-is : (first : ℕ) (number : LightNumber) → number .0 < 8 → tableFor first number ≡ first + number .0
 unfolding tableFor
@@ -48,7 +42,7 @@ same false = refl
 module _ (tables : List ℕ) where
   value-read : (table : ℕ) (k : OptionalLookup) (twoSided : Bool) (inputs : List Float) (missing : Float)
       → scaledIf k (readValue tables (readingIf table k twoSided inputs)) missing ≡ valueIf tables table k twoSided inputs missing
-  unfolding scaledIf readValue readingIf readingBy valueIf valueOf
+  unfolding scaledIf readValue readingIf readingBy valueIf lookupValue
   value-read table Missing twoSided inputs missing = refl
   value-read table (Present k) twoSided inputs missing = refl
 
@@ -60,8 +54,8 @@ module _ (tables : List ℕ) where
 
   picked : (on : Bool) (table : ℕ) (k : Lookup) (twoSided : Bool) (inputs : List Float)
       → cond on ((k .scale) ⊗ readValue tables (cond on (readingBy table k twoSided inputs) Unread)) float1
-      ≡ cond on (valueOf tables table k twoSided inputs) float1
-  unfolding readValue readingBy valueOf
+      ≡ cond on (lookupValue tables table k twoSided inputs) float1
+  unfolding readValue readingBy lookupValue
   picked true table k twoSided inputs = refl
   picked false table k twoSided inputs = refl
 
@@ -73,20 +67,20 @@ module _ (tables : List ℕ) where
       rw (table-is 8 (light .number) h)
       (picked (light .spotlight) (8 + light .number .0) k (light .«two_sided») inputs)
 
-  distance-read-by : (d : Distance) (number : LightNumber) (away : Float)
+  distance-read-by : (d : Distance) (number : LightNumber) (norm : Float)
       → number .0 < 8
-      → readValue tables (distanceReadingBy d number away) ≡ distanceBy tables d number away
+      → readValue tables (distanceReadingBy d number norm) ≡ distanceBy tables d number norm
   unfolding readValue distanceReadingBy distanceBy
-  distance-read-by Without number away h = refl
-  distance-read-by (Scaled bias scale) number away h = rw (table-is 16 number h)
+  distance-read-by Without number norm h = refl
+  distance-read-by (Scaled bias scale) number norm h = rw (table-is 16 number h)
 
   pub distance-read : (light : Light) (view : List Float)
       → light .number .0 < 8
       → readValue tables (distanceReading light view) ≡ distanceValue tables light view
   unfolding distanceReading distanceValue
-  distance-read light view h = distance-read-by (light .distance) (light .number) (awayOf view (light .position)) h
+  distance-read light view h = distance-read-by (light .distance) (light .number) (offsetNorm view (light .position)) h
 
-  values-read : (lookups : Lookups) (light : Light) (inputs : List Float) (distance : Float) (last : Bool)
+  values-read : (lookups : LightingLookups) (light : Light) (inputs : List Float) (distance : Float) (last : Bool)
       → light .number .0 < 8
       → valuesFrom lookups light (readAll tables (readingsBy lookups light inputs last) distance) last
       ≡ valuesBy tables lookups light inputs distance last
@@ -94,7 +88,7 @@ module _ (tables : List ℕ) where
   values-read lookups light inputs distance last h =
       simp (value-read, fresnel-read, spot-read light (lookups .spotlight) inputs h)
 
-  values-unread : (lookups : Lookups) (light : Light) (inputs : List Float) (distance : Float) (last : Bool)
+  values-unread : (lookups : LightingLookups) (light : Light) (inputs : List Float) (distance : Float) (last : Bool)
       → readsTables lookups light ≡ false
       → unread distance ≡ valuesBy tables lookups light inputs distance last
   unfolding readsTables unread valuesBy valueIf spotValue fresnelValue
@@ -109,28 +103,28 @@ module _ (tables : List ℕ) where
       (missing _ (ab .0), missing _ (ab .1), missing _ (cd .0), missing _ (cd .1), missing _ (ef .0), missing _ (ef .1), s .1, same last)
 
   -- the three steps, for a light that reads tables
-  pub read-in-steps : (lookups : Lookups) (frame : Frame) (toward : Toward) (light : Light) (last : Bool)
+  pub read-in-steps : (lookups : LightingLookups) (frame : Frame) (directions : Directions) (light : Light) (last : Bool)
       → light .number .0 < 8
-      → valuesFrom lookups light (readAll tables (readingsOf lookups frame toward light last) (readValue tables (distanceReading light (frame .view)))) last
-      ≡ valuesOf tables lookups frame toward light last
+      → valuesFrom lookups light (readAll tables (readingsOf lookups frame directions light last) (readValue tables (distanceReading light (frame .view)))) last
+      ≡ valuesOf tables lookups frame directions light last
   unfolding readingsOf valuesOf
-  read-in-steps lookups frame toward light last h =
+  read-in-steps lookups frame directions light last h =
       rw (distance-read light (frame .view) h) (values-read lookups light _ _ last h)
 
   -- a light that reads none
-  pub read-none : (lookups : Lookups) (frame : Frame) (toward : Toward) (light : Light) (last : Bool)
+  pub read-none : (lookups : LightingLookups) (frame : Frame) (directions : Directions) (light : Light) (last : Bool)
       → light .number .0 < 8
       → readsTables lookups light ≡ false
-      → unread (readValue tables (distanceReading light (frame .view))) ≡ valuesOf tables lookups frame toward light last
+      → unread (readValue tables (distanceReading light (frame .view))) ≡ valuesOf tables lookups frame directions light last
   unfolding valuesOf
-  read-none lookups frame toward light last h r =
+  read-none lookups frame directions light last h r =
       rw (distance-read light (frame .view) h) (values-unread lookups light _ _ last r)
 
--- a light's distance is read where the length of the way to it says
-pub distance-by : (light : Light) (view : List Float) → distanceReadingBy (light .distance) (light .number) (wayTo light view .length) ≡ distanceReading light view
+-- a light's distance is read where the norm of the ray to it says
+pub distance-by : (light : Light) (view : List Float) → distanceReadingBy (light .distance) (light .number) (rayTo light view .norm) ≡ distanceReading light view
 unfolding distanceReading distanceReadingBy
 distance-by light view = go (light .distance) refl
   where
-    go : (d : Distance) → light .distance ≡ d → distanceReadingBy (light .distance) (light .number) (wayTo light view .length) ≡ distanceReadingBy (light .distance) (light .number) (awayOf view (light .position))
+    go : (d : Distance) → light .distance ≡ d → distanceReadingBy (light .distance) (light .number) (rayTo light view .norm) ≡ distanceReadingBy (light .distance) (light .number) (offsetNorm view (light .position))
     go Without e = rw e refl
-    go (Scaled bias scale) e = ap (λ (x : Float). distanceReadingBy (light .distance) (light .number) x) (away-is light view bias scale e)
+    go (Scaled bias scale) e = ap (λ (x : Float). distanceReadingBy (light .distance) (light .number) x) (norm-is light view bias scale e)

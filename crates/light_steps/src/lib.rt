@@ -1,33 +1,32 @@
-// What one light adds to a fragment's sums, its tables being read.
-mod sums;
+// What one light adds to a fragment's sums, its tables being read: `values` makes of the entries what the lookups say, `terms` the light's terms of them, `contribution` the
+// sums with these.
+mod contribution;
 mod terms;
 pub mod values;
 
 ghost use mathlib.Core.Path.{_≡_};
 ghost use Prim.Native.Nat.{_<_};
 ghost use lib.ListN.{length};
-ghost use Rattle.sources.specs.Sources.{given};
-ghost use Rattle.light_tables.specs.Distance.{distanceReadingBy};
-ghost use Rattle.light_tables.specs.Entries.{readValue};
-ghost use Rattle.light_steps.specs.Lookups.{distanceReading, valuesOf};
-ghost use Rattle.light_steps.specs.Step.{stepOf};
+ghost use Rattle.sources.specs.Steps.{given};
+ghost use Rattle.light_tables.specs.Steps.{distanceReadingBy, readValue};
+ghost use Rattle.light_steps.specs.Steps.{distanceReading, valuesOf, stepOf};
 use lighting::Light;
+use surface::types::Directions;
 use surface::types::Frame;
-use surface::types::Lookups;
+use surface::types::LightingLookups;
 use surface::types::Settings;
 use surface::types::Sums;
-use surface::types::Toward;
 use surface::types::Values;
 
-// What a light that is so far away reads from its distance table.
-fn distance_of(tables: &[u32], bytes: &[u8], light: Light, away: f32) -> f32
+// What a light whose ray has this norm reads from its distance table.
+fn distance_of(tables: &[u32], bytes: &[u8], light: Light, norm: f32) -> f32
     requires { ⌜ length (given (now tables) (now bytes)) ≡ 12288 ⌝ }
-    ensures { λ r. ⌜ r ≡ readValue (given (now (tables .entry)) (now (bytes .entry))) (distanceReadingBy (light .distance) (light .number) away) ⌝ }
+    ensures { λ r. ⌜ r ≡ readValue (given (now (tables .entry)) (now (bytes .entry))) (distanceReadingBy (light .distance) (light .number) norm) ⌝ }
 {
     light_tables::entries::read(
         tables,
         bytes,
-        light_tables::distance::distance_reading(light, away),
+        light_tables::distance::distance_reading(light, norm),
     )
 }
 
@@ -35,27 +34,28 @@ fn distance_of(tables: &[u32], bytes: &[u8], light: Light, away: f32) -> f32
 fn values_of(
     tables: &[u32],
     bytes: &[u8],
-    lookups: Lookups,
+    lookups: LightingLookups,
     frame: Frame,
-    toward: Toward,
+    directions: Directions,
     distance: f32,
     light: Light,
     last: bool,
 ) -> Values
     requires { ⌜ (length (given (now tables) (now bytes)) ≡ 12288) × (light .number .0 < 8) × (distance ≡ readValue (given (now tables) (now bytes)) (distanceReading light (frame .view))) ⌝ }
-    ensures { λ r. ⌜ r ≡ valuesOf (given (now (tables .entry)) (now (bytes .entry))) lookups frame toward light last ⌝ }
+    ensures { λ r. ⌜ r ≡ valuesOf (given (now (tables .entry)) (now (bytes .entry))) lookups frame directions light last ⌝ }
 {
-    let readings = light_tables::readings::readings_of(lookups, frame, toward, light, last);
+    let readings = light_tables::readings::readings_of(lookups, frame, directions, light, last);
     let read = light_tables::entries::read_all(tables, bytes, readings, distance);
     values::values_from(lookups, light, read, last)
 }
 
 // The sums with one light's contribution. `last` is the last slot lit. Without tables only a geometric factor reads the half vector: made in that branch, it
 // is worked out for such a light alone.
+// Asks: tables of 12,288 words and a light number below 8, which the caller has looked at once for all its lights and fragments.
 pub fn step(
     tables: &[u32],
     bytes: &[u8],
-    lookups: Lookups,
+    lookups: LightingLookups,
     frame: Frame,
     settings: Settings,
     last: bool,
@@ -67,15 +67,24 @@ pub fn step(
 {
     let normal = frame.normal;
     let view = frame.view;
-    let way = light_tables::light::way_to(light, view);
-    let vector = way.vector;
-    let distance = distance_of(tables, bytes, light, way.length);
+    let ray = light_tables::light::ray_to(light, view);
+    let vector = ray.vector;
+    let distance = distance_of(tables, bytes, light, ray.norm);
     if values::reads_tables(lookups, light) {
-        let toward = light_tables::light::toward_light(vector, frame, lookups.needs_half);
-        let values = values_of(tables, bytes, lookups, frame, toward, distance, light, last);
-        sums::with_light(sums, light, normal, toward, values, settings, last)
+        let directions = light_tables::light::directions_of(vector, frame, lookups.needs_half);
+        let values = values_of(
+            tables,
+            bytes,
+            lookups,
+            frame,
+            directions,
+            distance,
+            light,
+            last,
+        );
+        contribution::with_values(sums, light, normal, directions, values, settings, last)
     } else {
-        let toward = light_tables::light::toward_light(vector, frame, lookups.needs_half);
-        sums::with_unread(sums, light, normal, toward, distance, settings, last)
+        let directions = light_tables::light::directions_of(vector, frame, lookups.needs_half);
+        contribution::with_unread(sums, light, normal, directions, distance, settings, last)
     }
 }

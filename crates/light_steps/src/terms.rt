@@ -1,6 +1,6 @@
 // The terms of one light: what it adds to the diffuse and to the specular sum, before any shadow.
 ghost use mathlib.Core.Path.{_≡_};
-ghost use Rattle.light_steps.specs.Terms.{diffuseOf, timesIf, reflectedOf, specularBy, specularOf};
+ghost use Rattle.light_steps.specs.Steps.{diffuseOf, timesIf, reflectedOf, specularBy, specularOf};
 use lighting::Light;
 use surface::types::Values;
 

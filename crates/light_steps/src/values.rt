@@ -1,11 +1,12 @@
 // The values that a light takes from its lookups: whether it reads any table, and what is made of the entries that were read.
 ghost use mathlib.Core.Path.{_≡_};
-ghost use Rattle.light_steps.specs.Values.{present as presentOf, readsTables, scaledIf, spotScaled, fresnelScaled, valuesFrom, unread as unreadOf};
+ghost use Rattle.light_steps.specs.Steps.{present as presentOf, readsTables, scaledIf, spotScaled, fresnelScaled, valuesFrom, unread as unreadOf};
 use flags::either;
 use lighting::Light;
 use lighting::Lookup;
 use lighting::OptionalLookup;
-use surface::types::Lookups;
+use surface::types::EntryValues;
+use surface::types::LightingLookups;
 use surface::types::Values;
 
 pub fn present(lookup: OptionalLookup) -> bool
@@ -18,7 +19,7 @@ pub fn present(lookup: OptionalLookup) -> bool
 }
 
 // Whether a light reads any table but its distance table.
-pub(crate) fn reads_tables(lookups: Lookups, light: Light) -> bool
+pub(crate) fn reads_tables(lookups: LightingLookups, light: Light) -> bool
     ensures { λ r. ⌜ r ≡ readsTables lookups light ⌝ }
 {
     let a = lookups.distribution0;
@@ -60,7 +61,12 @@ fn fresnel_scaled(last: bool, lookup: OptionalLookup, x: f32) -> f32
 }
 
 // The values, from what the entries of the readings gave. Green and blue fall back to red.
-pub(crate) fn values_from(lookups: Lookups, light: Light, read: Values, last: bool) -> Values
+pub(crate) fn values_from(
+    lookups: LightingLookups,
+    light: Light,
+    read: EntryValues,
+    last: bool,
+) -> Values
     ensures { λ r. ⌜ r ≡ valuesFrom lookups light read last ⌝ }
 {
     let spotlight = lookups.spotlight;

@@ -1,12 +1,12 @@
 // What the tables give where a light reads them. They come as words or as bytes, and only the fetching of an entry knows which.
 ghost use mathlib.Core.Path.{_≡_};
 ghost use lib.ListN.{length};
-ghost use Rattle.sources.specs.Sources.{given};
-ghost use Rattle.tables.specs.Lookup.{tableLookup};
-ghost use Rattle.light_tables.specs.Entries.{readValue, readAll};
+ghost use Rattle.sources.specs.Steps.{given};
+ghost use Rattle.tables.specs.Tables.{tableLookup};
+ghost use Rattle.light_tables.specs.Steps.{readValue, readAll};
+use surface::types::EntryValues;
 use surface::types::Reading;
 use surface::types::Readings;
-use surface::types::Values;
 
 // What a table gives at an entry.
 fn fetch(tables: &[u32], bytes: &[u8], table: u32, entry: u8, delta: f32) -> f32
@@ -17,12 +17,13 @@ fn fetch(tables: &[u32], bytes: &[u8], table: u32, entry: u8, delta: f32) -> f32
     if at < 12288 {
         let value = sources::word(tables, bytes, at);
         let step = sources::word(tables, bytes, at + 1);
-        tables::lookup::interpolated(value, step, delta)
+        tables::entries::interpolated(value, step, delta)
     } else {
-        tables::lookup::interpolated(0, 0, delta)
+        tables::entries::interpolated(0, 0, delta)
     }
 }
 
+// Asks: tables of 12,288 words, which the caller has counted once for all its reads.
 pub fn read(tables: &[u32], bytes: &[u8], reading: Reading) -> f32
     requires { ⌜ length (given (now tables) (now bytes)) ≡ 12288 ⌝ }
     ensures { λ r. ⌜ r ≡ readValue (given (now (tables .entry)) (now (bytes .entry))) reading ⌝ }
@@ -33,7 +34,8 @@ pub fn read(tables: &[u32], bytes: &[u8], reading: Reading) -> f32
     }
 }
 
-pub fn read_all(tables: &[u32], bytes: &[u8], readings: Readings, distance: f32) -> Values
+// Asks: as `read`.
+pub fn read_all(tables: &[u32], bytes: &[u8], readings: Readings, distance: f32) -> EntryValues
     requires { ⌜ length (given (now tables) (now bytes)) ≡ 12288 ⌝ }
     ensures { λ r. ⌜ r ≡ readAll (given (now (tables .entry)) (now (bytes .entry))) readings distance ⌝ }
 {
@@ -44,7 +46,7 @@ pub fn read_all(tables: &[u32], bytes: &[u8], readings: Readings, distance: f32)
     let blue = readings.blue;
     let distribution1 = readings.distribution1;
     let fresnel = readings.fresnel;
-    Values {
+    EntryValues {
         distance,
         spot: read(tables, bytes, spot),
         distribution0: read(tables, bytes, distribution0),

@@ -1,8 +1,8 @@
 // The inputs of the lookups, by their numbers.
 ghost use mathlib.Core.Path.{_≡_};
-ghost use Rattle.light_tables.specs.Inputs.{alongTangent, inputsOf};
+ghost use Rattle.light_tables.specs.Steps.{alongTangent, inputsOf};
+use surface::types::Directions;
 use surface::types::Frame;
-use surface::types::Toward;
 
 fn along_tangent(config: u32, normal: [f32; 3], tangent: [f32; 3], half: [f32; 3]) -> f32
     ensures { λ r. ⌜ r ≡ alongTangent config normal tangent half ⌝ }
@@ -18,17 +18,17 @@ fn along_tangent(config: u32, normal: [f32; 3], tangent: [f32; 3], half: [f32; 3
 pub(crate) fn inputs_of(
     config: u32,
     frame: Frame,
-    toward: Toward,
+    directions: Directions,
     needed: bool,
     spot: [f32; 3],
 ) -> [f32; 8]
-    ensures { λ r. ⌜ r ≡ inputsOf config frame toward needed spot ⌝ }
+    ensures { λ r. ⌜ r ≡ inputsOf config frame directions needed spot ⌝ }
 {
     let normal = frame.normal;
     let tangent = frame.tangent;
     let norm_view = frame.norm_view;
-    let light_vector = toward.light_vector;
-    let half = toward.half;
+    let light_vector = directions.light_vector;
+    let half = directions.half;
     let half_unit = surface::unit_if(needed, half);
     [
         vectors::dot(normal, half_unit),

@@ -1,7 +1,7 @@
 // Where a lookup is read: the table, the entry, and how far past it.
 ghost use mathlib.Core.Path.{_≡_};
 ghost use Prim.Native.Nat.{_≤_};
-ghost use Rattle.light_tables.specs.Places.{placeOf, inputOf, tableFor, readingBy, readingIf};
+ghost use Rattle.light_tables.specs.Steps.{placeOf, inputOf, tableFor, readingBy, readingIf};
 use binary32::Place;
 use lighting::LightNumber;
 use lighting::Lookup;
@@ -15,11 +15,11 @@ fn input_of(lookup: Lookup, inputs: [f32; 8]) -> f32
     if input < 8 { inputs[input] } else { 0.0 }
 }
 
-fn place_of(absolute: bool, both: bool, x: f32) -> Place
-    ensures { λ r. ⌜ r ≡ placeOf absolute both x ⌝ }
+fn place_of(absolute: bool, twosided: bool, x: f32) -> Place
+    ensures { λ r. ⌜ r ≡ placeOf absolute twosided x ⌝ }
 {
     if absolute {
-        binary32::places::unsigned_place(surface::facing::facing_of(both, x))
+        binary32::places::unsigned_place(surface::facing::facing_of(twosided, x))
     } else {
         binary32::places::signed_place(x)
     }
@@ -33,23 +33,23 @@ pub(crate) fn table_for(first: u32, number: LightNumber) -> u32
     first + (number.0 % 8) as u32
 }
 
-pub(crate) fn reading_by(table: u32, lookup: Lookup, both: bool, inputs: [f32; 8]) -> Reading
-    ensures { λ r. ⌜ r ≡ readingBy table lookup both inputs ⌝ }
+pub(crate) fn reading_by(table: u32, lookup: Lookup, twosided: bool, inputs: [f32; 8]) -> Reading
+    ensures { λ r. ⌜ r ≡ readingBy table lookup twosided inputs ⌝ }
 {
-    let place = place_of(lookup.absolute, both, input_of(lookup, inputs));
+    let place = place_of(lookup.absolute, twosided, input_of(lookup, inputs));
     Reading::At(table, place.entry, place.delta)
 }
 
 pub(crate) fn reading_if(
     table: u32,
     lookup: OptionalLookup,
-    both: bool,
+    twosided: bool,
     inputs: [f32; 8],
 ) -> Reading
-    ensures { λ r. ⌜ r ≡ readingIf table lookup both inputs ⌝ }
+    ensures { λ r. ⌜ r ≡ readingIf table lookup twosided inputs ⌝ }
 {
     match lookup {
         OptionalLookup::Missing => Reading::Unread,
-        OptionalLookup::Present(k) => reading_by(table, k, both, inputs),
+        OptionalLookup::Present(k) => reading_by(table, k, twosided, inputs),
     }
 }

@@ -1,25 +1,25 @@
 // Where one light reads its lookups. The reading itself is not here, since a caller may have the tables as words or as bytes.
 ghost use mathlib.Core.Path.{_≡_};
-ghost use Rattle.light_tables.specs.Readings.{spotReading, fresnelReading, readingsBy, readingsOf};
+ghost use Rattle.light_tables.specs.Steps.{spotReading, fresnelReading, readingsBy, readingsOf};
 use crate::inputs;
 use crate::places::reading_by;
 use crate::places::reading_if;
 use crate::places::table_for;
-use decoding::configuration::DISTRIBUTION0;
-use decoding::configuration::DISTRIBUTION1;
-use decoding::configuration::FRESNEL;
-use decoding::configuration::REFLECT_BLUE;
-use decoding::configuration::REFLECT_GREEN;
-use decoding::configuration::REFLECT_RED;
-use decoding::configuration::SPOTLIGHT;
 use lighting::Light;
 use lighting::Lookup;
 use lighting::OptionalLookup;
+use lighting::tables::DISTRIBUTION0;
+use lighting::tables::DISTRIBUTION1;
+use lighting::tables::FRESNEL;
+use lighting::tables::REFLECT_BLUE;
+use lighting::tables::REFLECT_GREEN;
+use lighting::tables::REFLECT_RED;
+use lighting::tables::SPOTLIGHT;
+use surface::types::Directions;
 use surface::types::Frame;
-use surface::types::Lookups;
+use surface::types::LightingLookups;
 use surface::types::Reading;
 use surface::types::Readings;
-use surface::types::Toward;
 
 fn spot_reading(light: Light, lookup: Lookup, inputs: [f32; 8]) -> Reading
     ensures { λ r. ⌜ r ≡ spotReading light lookup inputs ⌝ }
@@ -38,17 +38,17 @@ fn spot_reading(light: Light, lookup: Lookup, inputs: [f32; 8]) -> Reading
 }
 
 // Only the last slot lit reads fresnel.
-fn fresnel_reading(last: bool, lookup: OptionalLookup, both: bool, inputs: [f32; 8]) -> Reading
-    ensures { λ r. ⌜ r ≡ fresnelReading last lookup both inputs ⌝ }
+fn fresnel_reading(last: bool, lookup: OptionalLookup, twosided: bool, inputs: [f32; 8]) -> Reading
+    ensures { λ r. ⌜ r ≡ fresnelReading last lookup twosided inputs ⌝ }
 {
     if last {
-        reading_if(FRESNEL, lookup, both, inputs)
+        reading_if(FRESNEL, lookup, twosided, inputs)
     } else {
         Reading::Unread
     }
 }
 
-fn readings_by(lookups: Lookups, light: Light, inputs: [f32; 8], last: bool) -> Readings
+fn readings_by(lookups: LightingLookups, light: Light, inputs: [f32; 8], last: bool) -> Readings
     ensures { λ r. ⌜ r ≡ readingsBy lookups light inputs last ⌝ }
 {
     let spotlight = lookups.spotlight;
@@ -58,28 +58,28 @@ fn readings_by(lookups: Lookups, light: Light, inputs: [f32; 8], last: bool) -> 
     let d = lookups.reflect_red;
     let e = lookups.reflect_green;
     let f = lookups.reflect_blue;
-    let both = light.two_sided;
+    let twosided = light.two_sided;
     Readings {
         spot: spot_reading(light, spotlight, inputs),
-        distribution0: reading_if(DISTRIBUTION0, a, both, inputs),
-        red: reading_if(REFLECT_RED, d, both, inputs),
-        green: reading_if(REFLECT_GREEN, e, both, inputs),
-        blue: reading_if(REFLECT_BLUE, f, both, inputs),
-        distribution1: reading_if(DISTRIBUTION1, b, both, inputs),
-        fresnel: fresnel_reading(last, c, both, inputs),
+        distribution0: reading_if(DISTRIBUTION0, a, twosided, inputs),
+        red: reading_if(REFLECT_RED, d, twosided, inputs),
+        green: reading_if(REFLECT_GREEN, e, twosided, inputs),
+        blue: reading_if(REFLECT_BLUE, f, twosided, inputs),
+        distribution1: reading_if(DISTRIBUTION1, b, twosided, inputs),
+        fresnel: fresnel_reading(last, c, twosided, inputs),
     }
 }
 
 pub fn readings_of(
-    lookups: Lookups,
+    lookups: LightingLookups,
     frame: Frame,
-    toward: Toward,
+    directions: Directions,
     light: Light,
     last: bool,
 ) -> Readings
-    ensures { λ r. ⌜ r ≡ readingsOf lookups frame toward light last ⌝ }
+    ensures { λ r. ⌜ r ≡ readingsOf lookups frame directions light last ⌝ }
 {
     let spot = light.spot;
-    let inputs = inputs::inputs_of(lookups.config, frame, toward, lookups.needs_half, spot);
+    let inputs = inputs::inputs_of(lookups.config, frame, directions, lookups.needs_half, spot);
     readings_by(lookups, light, inputs, last)
 }

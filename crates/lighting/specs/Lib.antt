@@ -1,1 +1,3 @@
-pub mod Blank
+pub mod Forms
+pub mod Lighting
+pub mod Claims

@@ -1,6 +1,8 @@
 // The lighting of a draw, as it is decoded from the registers, packed into a block and read back from one.
+pub mod tables;
+
 ghost use mathlib.Core.Path.{_≡_};
-ghost use Rattle.lighting.specs.Blank.{blankLight, blankLighting};
+ghost use Rattle.lighting.specs.Lighting.{blankLight, blankLighting, isScaled, bumpUnit, shadowUnit};
 
 // A slot of the lighting: the first `light_count` of the eight are lit.
 pub struct Slot(pub usize);
@@ -19,6 +21,17 @@ pub struct Lookup {
 pub enum OptionalLookup {
     Missing,
     Present(Lookup),
+}
+
+// The tables of a draw; those of the spotlights are read alike, and always have a lookup.
+pub struct TableLookups {
+    pub distribution0: OptionalLookup,
+    pub distribution1: OptionalLookup,
+    pub fresnel: OptionalLookup,
+    pub reflect_red: OptionalLookup,
+    pub reflect_green: OptionalLookup,
+    pub reflect_blue: OptionalLookup,
+    pub spotlight: Lookup,
 }
 
 // Whether the light's distance table is read, and then its bias and its scale.
@@ -147,5 +160,36 @@ pub fn blank_lighting() -> Lighting
         needs_view: false,
         bump: Bump::Flat,
         shadow: OptionalShadow::Unshadowed,
+    }
+}
+
+// The texture unit that perturbs the surface, 0 where there is none.
+pub fn bump_unit(bump: Bump) -> usize
+    ensures { λ r. ⌜ r ≡ bumpUnit bump ⌝ }
+{
+    match bump {
+        Bump::Flat => 0,
+        Bump::Normal(unit, _) => unit,
+        Bump::Tangent(unit) => unit,
+    }
+}
+
+// The texture unit that holds the shadow, 0 where there is none.
+pub fn shadow_unit(shadow: OptionalShadow) -> usize
+    ensures { λ r. ⌜ r ≡ shadowUnit shadow ⌝ }
+{
+    match shadow {
+        OptionalShadow::Unshadowed => 0,
+        OptionalShadow::Shadowed(s) => s.unit,
+    }
+}
+
+// Whether a light has a distance table.
+pub fn is_scaled(distance: Distance) -> bool
+    ensures { λ r. ⌜ r ≡ isScaled distance ⌝ }
+{
+    match distance {
+        Distance::Without => false,
+        Distance::Scaled(_, _) => true,
     }
 }

@@ -8,17 +8,17 @@ use mathlib.Core.List.{List, []}
 use lib.Dec.{eqb}
 use lib.ListN.{length}
 use borrow.Author.Tests.{eq-eqb, eqb-true}
-use Rattle.sources.specs.Sources.{wordsOf, given}
+use Rattle.sources.specs.Sources.{wordsOf}
+use Rattle.sources.specs.Steps.{given}
 use Rattle.sources.specs.SourcesLaws.{length-words, given-bytes}
-use Rattle.lighting_abi.specs.AnswerBytesBytes.{bytesOf}
-use Rattle.block_shading.specs.BlockShading.{Shaded, shaded, eightOf}
-use Rattle.block_shading.specs.Answers.{isOff}
+use Rattle.lighting_abi.specs.Boundary.{bytesOf, wholeWords, answerBytes, shadeBytes}
+use Rattle.shading.specs.Shade.{Shaded, shaded}
+use Rattle.block_shading.specs.BlockShading.{eightOf}
+use Rattle.block_shading.specs.Steps.{isOff}
 use Rattle.block_shading.specs.AnswersLaws.{wrong-block, wrong-tables, wrong-fragment, wrong-answer, lit-answer, off-answer, bad-answer}
-use Rattle.block.specs.Formed.{words}
-use Rattle.block.specs.Reading.{blockLighting}
-use Rattle.block.specs.Answers.{blockForm}
-use Rattle.block_reading.specs.Answer.{isLit}
-use Rattle.lighting_abi.specs.Bytes.{wholeWords, answerBytes, shadeBytes}
+use Rattle.block.specs.Block.{words, blockLighting}
+use Rattle.block.specs.Steps.{blockForm}
+use Rattle.block_reading.specs.Steps.{isLit}
 
 -- n words
 pub right-length : (b : List ℕ) (n : ℕ) → length b ≡ 4 * n → length (wholeWords b) ≡ n

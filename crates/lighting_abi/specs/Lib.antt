@@ -1,3 +1,3 @@
-pub mod Bytes
+pub mod Boundary
+pub mod Steps
 pub mod BytesLaws
-pub mod AnswerBytesBytes

@@ -1,9 +1,10 @@
-// Block shading for C and Rust: what a renderer links. A word, and each channel of the answer, is four bytes, the least first.
+// Block shading for C and Rust: what a renderer links. A word, and each channel of the answer, is four bytes, the least first. `answer_bytes` writes the
+// answer; all else stands here.
 mod answer_bytes;
 
 ghost use mathlib.Core.Path.{_≡_};
-ghost use Rattle.block_shading.specs.BlockShading.{shaded};
-ghost use Rattle.lighting_abi.specs.Bytes.{shadeBytes};
+ghost use Rattle.shading.specs.Shade.{shaded};
+ghost use Rattle.lighting_abi.specs.Boundary.{shadeBytes};
 use block_reading::is_lit;
 use block_reading::is_plain;
 use block_shading::is_off;

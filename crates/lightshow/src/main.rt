@@ -1,9 +1,9 @@
 // Reads a capture on standard input and writes what it prints. What it prints is worked out by the library call; this only passes it on.
-use capture_calls::answers::Answer;
+use capture_calls::Answer;
 use libc::STDIN_FILENO;
 use libc::STDOUT_FILENO;
 ghost use mathlib.Core.Path.{_≡_};
-ghost use Rattle.capture_calls.specs.Answers.{shortOutput, numberBy, sizeOf};
+ghost use Rattle.capture_calls.specs.Capture.{shortOutput, numberBy, sizeOf};
 ghost use Rattle.lightshow.specs.Input.{Within};
 
 // What reading gives: so many bytes, or a read that failed.
@@ -36,7 +36,7 @@ fn size_of(answer: Answer) -> usize
     requires { ⌜ (numberBy answer ≡ shortOutput → ⊥) ⌝ }
     ensures { λ r. ⌜ r ≡ sizeOf answer ⌝ }
 {
-    capture_calls::answers::printed_size(answer)
+    capture_calls::printed_size(answer)
 }
 
 fn show(input: &[u8]) {

@@ -7,19 +7,15 @@ use mathlib.Core.Path.{_≡_, refl, sym, ap, _∙_, subst}
 use mathlib.Core.List.{List, [], _∷_, _++_}
 use lib.ListN.{length, getD, replicate}
 use lib.Dec.{lit<, lit≤}
-use Rattle.decoding.specs.Decode.{decoded}
-use Rattle.block.specs.Answers.{packedReading}
-use Rattle.refusals.specs.Lengths.{fileRefusal, tablesRefusal, registerRefusal, savedRefusal, blockRefusal}
-use Rattle.tables.specs.Upload.{isData}
-use Rattle.tables.specs.Generation.{last}
-use Rattle.tables.specs.Write.{writeIf}
-use Rattle.tables.specs.Restore.{restoreIf}
+use Rattle.decoding.specs.Read.{read}
+use Rattle.block.specs.Block.{packedReading}
+use Rattle.refusals.specs.Refusals.{fileRefusal, tablesRefusal, registerRefusal, savedRefusal, blockRefusal}
+use Rattle.tables.specs.Tables.{isData, last, writeIf, restoreIf}
 use Rattle.unit.specs.declared.Cache.{Cache}
-use Rattle.unit.specs.Fresh.{freshCache}
-use Rattle.unit.specs.CachedRead.{refreshed}
-use Rattle.unit.specs.HandOver.{Handed}
+use Rattle.unit.specs.Unit.{freshCache, refreshed, Handed}
 use Rattle.unit.specs.DecodedLaws.{packed-length}
-use Rattle.block_shading.specs.BlockShading.{Shaded, blockShading}
+use Rattle.shading.specs.Shade.{Shaded}
+use Rattle.block_shading.specs.BlockShading.{blockShading}
 use Rattle.lists.specs.ShadesLaws.{block-shades}
 use Rattle.lists.specs.States.{State, unitState, copyState, state, fresh as freshState, Implementation}
 use Rattle.lists.specs.Calls.{Call, step, run}
@@ -52,7 +48,7 @@ scenes = scene ++ restore empty ∷ handOver ∷ []
 
 -- the block of the lantern's registers
 abbrev block : List ℕ
-block = packedReading (decoded lantern)
+block = packedReading (read lantern)
 
 -- the cache that the first hand-over leaves
 abbrev cache : Cache
@@ -72,7 +68,7 @@ tables-once-after =
     ap (λ (w : Handed Cache). run copiesTablesOnce (state (unitState lantern ones 1 (w .cache)) (copyState (w .block) (w .tables) (w .generation))) (restore empty ∷ handOver ∷ []))
     (hands-over lantern ones 1 freshCache (replicate 328 0) empty 0 fresh-sound refl)
     ∙ ap (λ (w : Handed Cache). state (unitState lantern empty 2 (w .cache)) (copyState (w .block) ones (w .generation)))
-    (hands-over lantern empty 2 cache block ones 1 (read-sound lantern freshCache fresh-sound .1) (rw (packed-length (decoded lantern)) refl))
+    (hands-over lantern empty 2 cache block ones 1 (read-sound lantern freshCache fresh-sound .1) (rw (packed-length (read lantern)) refl))
 
 -- neither half of what demand 3 says after a list holds
 record Apart (I : Implementation Cache) (calls : List Call) (s : State Cache) : Type 0 where

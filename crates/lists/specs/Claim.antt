@@ -2,11 +2,13 @@
 use Prim.Native.Nat.{ℕ, _+_, _≤_, _<_}
 use mathlib.Core.Path.{_≡_}
 use mathlib.Core.List.{List, [], _∷_}
-use mathlib.Core.Bool.{true, cond}
+use mathlib.Core.Bool.{true}
 use lib.ListN.{length}
 use lib.Dec.{eqb}
-use Rattle.decoding.specs.Decode.{decoded}
-use Rattle.block_shading.specs.BlockShading.{Shaded, shaded, eightOf}
+use Rattle.lighting.specs.Forms.{if_then_else_}
+use Rattle.decoding.specs.Read.{read}
+use Rattle.shading.specs.Shade.{Shaded, shaded}
+use Rattle.block_shading.specs.BlockShading.{eightOf}
 use Rattle.lists.specs.States.{CopyState, State, fresh, Implementation}
 use Rattle.lists.specs.Calls.{Call, run, answer}
 use Rattle.lists.specs.Calls.Call.{Write, Restore, Read, HandOver}
@@ -29,8 +31,8 @@ EndsHandedOver n (c ∷ d ∷ cs) = EndsHandedOver n (d ∷ cs)
 -- eight k, in printed order, that the definition gives from the machine's registers and entries."
 unfoldable pub shadeFrom : List ℕ → List ℕ → List ℕ → List ℕ → Shaded
 shadeFrom registers entries fragment answer =
-    let d = decoded registers in
-    cond (d .on) (shaded 0 (eightOf (d .lighting) entries fragment)) (shaded 100 answer)
+    let d = read registers in
+    if d .on then shaded 0 (eightOf (d .lighting) entries fragment) else shaded 100 answer
 
 module _ {C : Type 0} (I : Implementation C) where
   -- "block shading takes the copy's block and tables, 23 words of any bits and an answer of 8 words"

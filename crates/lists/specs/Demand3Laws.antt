@@ -8,9 +8,9 @@ use mathlib.Core.List.{List, [], _∷_}
 use mathlib.Core.Bool.{Bool, true, false, cond}
 use lib.ListN.{length}
 use lib.Dec.{ltb, leb, eqb}
-use Rattle.refusals.specs.Lengths.{fileRefusal, tablesRefusal, registerRefusal, savedRefusal, blockRefusal, _else_}
+use Rattle.refusals.specs.Refusals.{fileRefusal, tablesRefusal, registerRefusal, savedRefusal, blockRefusal, _else_}
 use Rattle.unit.specs.declared.Cache.{Cache}
-use Rattle.unit.specs.Fresh.{freshCache}
+use Rattle.unit.specs.Unit.{freshCache}
 use Rattle.lists.specs.Ours.{ours}
 use Rattle.lists.specs.States.{State, fresh}
 use Rattle.lists.specs.Calls.{Call, step, run, answer}

@@ -9,10 +9,9 @@ use mathlib.Core.Bool.{Bool, true, false, cond, false≢true}
 use lib.ListN.{length}
 use lib.Dec.{eqb, eqb·suc-zero}
 use borrow.Author.Tests.{eqb-true}
-use Rattle.block.specs.Answers.{packedReading}
+use Rattle.block.specs.Block.{packedReading}
 use Rattle.unit.specs.declared.Cache.{Cache}
-use Rattle.unit.specs.CachedRead.{refreshed}
-use Rattle.unit.specs.HandOver.{Handed, handed, handOverRefusal, packable, taken, handOverRead, handOverIf}
+use Rattle.unit.specs.Unit.{refreshed, Handed, handed, handOverRefusal, packable, taken, handOverRead, handOverIf}
 use Rattle.unit.specs.HandOverLaws.{hand-over-lengths, hand-over-test}
 use Rattle.unit.specs.DecodedLaws.{decoded-packable, packed-length}
 use Rattle.lists.specs.Ours.{ours}

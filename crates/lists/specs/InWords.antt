@@ -1,8 +1,7 @@
--- The implementation whose caches are words that the caller lends. Definitions only.
-use mathlib.Core.List.{List}
+-- The same with caches that are words lent by the caller. InWordsLaws proves demand 3 of it. Definitions only.
 use Prim.Native.Nat.{ℕ}
-use Rattle.tables.specs.Write.{write}
-use Rattle.tables.specs.Restore.{restore}
+use mathlib.Core.List.{List}
+use Rattle.tables.specs.Tables.{write, restore}
 use Rattle.unit.specs.CacheWords.{emptyWords, cachedReadWords, handOverWords}
 use Rattle.block_shading.specs.BlockShading.{blockShading}
 use Rattle.lists.specs.States.{Implementation}

@@ -1,4 +1,5 @@
--- What holds of unit, copy and plain machine after every list of calls, and more after an accepted hand-over. Definitions only.
+-- Serves the proof of demand 3 only, and nobody has to trust it: what holds of unit, copy and plain machine after every list of calls, and more
+-- after an accepted hand-over. Definitions only.
 use Prim.Native.Nat.{ℕ, _+_, _≤_}
 use mathlib.Core.Path.{_≡_}
 use mathlib.Core.List.{List}
@@ -6,9 +7,8 @@ use mathlib.Core.Logic.{_⊎_}
 use mathlib.Core.Bool.{true}
 use lib.ListN.{length, take}
 use Rattle.unit.specs.declared.Cache.{Cache}
-use Rattle.decoding.specs.RegistersRead.{keptWords}
-use Rattle.decoding.specs.Decode.{decoded}
-use Rattle.block.specs.Answers.{packedReading}
+use Rattle.decoding.specs.Read.{read, registersRead}
+use Rattle.block.specs.Block.{packedReading}
 use Rattle.lists.specs.States.{UnitState, CopyState, State}
 use Rattle.lists.specs.Plain.{Machine}
 
@@ -19,7 +19,7 @@ Rises u w =
 
 -- a cache is empty, or holds the lighting of every register file with its kept words
 abbrev pub Sound : Cache → Type 0
-Sound c = c .filled ≡ true → (f : List ℕ) → keptWords f ≡ c .kept → decoded f ≡ c .decoded
+Sound c = c .filled ≡ true → (f : List ℕ) → registersRead f ≡ c .kept → read f ≡ c .decoded
 
 -- the unit, whose file has n words, holds what the machine holds
 pub record Matches (n : ℕ) (u : UnitState Cache) (m : Machine) : Type 0 where
@@ -40,5 +40,5 @@ pub record Inv (n k : ℕ) (s : State Cache) (m : Machine) : Type 0 where
 
 -- the copy has the block of the machine's registers and the machine's entries
 pub record Shows (c : CopyState) (m : Machine) : Type 0 where
-  pub block : c .block ≡ packedReading (decoded (m .registers))
+  pub block : c .block ≡ packedReading (read (m .registers))
   pub tables : c .tables ≡ m .entries

@@ -8,9 +8,9 @@ use mathlib.Core.List.{List, _∷_}
 use mathlib.Core.Logic.{inl, inr}
 use mathlib.Core.Bool.{false, false≢true}
 use lib.ListN.{take, replicate, length-replicate}
-use Rattle.tables.specs.Generation.{last}
+use Rattle.tables.specs.Tables.{last}
 use Rattle.tables.specs.GenerationLaws.{below-last}
-use Rattle.unit.specs.Fresh.{freshCache}
+use Rattle.unit.specs.Unit.{freshCache}
 use Rattle.unit.specs.declared.Cache.{Cache}
 use Rattle.lists.specs.States.{UnitState, State, state, fresh}
 use Rattle.lists.specs.Plain.{Machine, zeroMachine}

@@ -1,17 +1,19 @@
 -- Lists in which a call may be lent a cache whose length it refuses: the unit's cache, being words that the caller lends, is one of "their slices".
--- Definitions only.
+-- LentCacheLaws proves demand 3 of them. Definitions only.
 use Prim.Native.Nat.{ℕ, _<_, _≤_}
 use mathlib.Core.Path.{_≡_}
 use mathlib.Core.List.{List, [], _∷_}
 use lib.ListN.{length}
+use Rattle.unit.specs.CacheWords.{cacheCount}
 use Rattle.lists.specs.States.{State, unitState, state, fresh}
 use Rattle.lists.specs.Calls.{Call, step}
 use Rattle.lists.specs.Calls.Call.{Write, Restore, Read, HandOver}
 use Rattle.lists.specs.Claim.{After}
 use Rattle.lists.specs.InWords.{inWords}
 
+-- the lengths of a cache that a call refuses
 abbrev pub NotCache : ℕ → Type 0
-NotCache n = n ≡ 468 → ⊥
+NotCache n = n ≡ cacheCount → ⊥
 
 -- a call that takes the cache
 abbrev pub TakesCache : Call → Type 0

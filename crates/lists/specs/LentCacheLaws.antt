@@ -4,9 +4,8 @@ use native.Mathlib.Omega.{arith}
 use mathlib.Core.Path.{_≡_, refl, sym, ap, _∙_}
 use mathlib.Core.List.{List, [], _∷_}
 use lib.ListN.{length}
-use Rattle.refusals.specs.Lengths.{fileRefusal, _else_}
-use Rattle.unit.specs.CachedRead.{Cached}
-use Rattle.unit.specs.HandOver.{Handed, handOverRefusal}
+use Rattle.refusals.specs.Refusals.{fileRefusal, _else_}
+use Rattle.unit.specs.Unit.{Cached, Handed, handOverRefusal}
 use Rattle.unit.specs.MeaningLaws.{other-read-refused, other-hand-over-refused}
 use Rattle.lists.specs.States.{State, fresh}
 use Rattle.lists.specs.Calls.{Call, lent, step, answer, run}

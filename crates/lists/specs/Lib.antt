@@ -4,9 +4,11 @@ pub mod Plain
 pub mod Claim
 pub mod Ours
 pub mod InWords
+pub mod LentCache
+pub mod Invariant
+pub mod Meant
 pub mod Wrong
 pub mod LentLaws
-pub mod Invariant
 pub mod InvariantLaws
 pub mod WriteCallLaws
 pub mod RestoreCallLaws
@@ -14,8 +16,6 @@ pub mod ReadCallLaws
 pub mod HandOverCallLaws
 pub mod ShadesLaws
 pub mod Demand3Laws
-pub mod Meant
 pub mod MeantLaws
 pub mod InWordsLaws
-pub mod LentCache
 pub mod LentCacheLaws

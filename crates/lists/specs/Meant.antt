@@ -1,4 +1,5 @@
--- An implementation J whose caches mean caches of another, I: every call of J is the call of I on the cache that is meant. Statements only.
+-- Serves the proof of demand 3 over lent caches only, and nobody has to trust it: an implementation J whose caches mean caches of another, I, so
+-- that every call of J is the call of I on the cache that is meant. Statements only.
 use Prim.Native.Nat.{ℕ}
 use mathlib.Core.Path.{_≡_}
 use mathlib.Core.List.{List}

@@ -2,10 +2,8 @@
 use Prim.Native.Nat.{ℕ}
 use mathlib.Core.Path.{_≡_, refl, sym, ap, _∙_, subst}
 use mathlib.Core.List.{List, [], _∷_}
-use Rattle.tables.specs.Write.{Wrote}
-use Rattle.tables.specs.Restore.{Restored}
-use Rattle.unit.specs.CachedRead.{Cached}
-use Rattle.unit.specs.HandOver.{Handed}
+use Rattle.tables.specs.Tables.{Wrote, Restored}
+use Rattle.unit.specs.Unit.{Cached, Handed}
 use Rattle.lists.specs.States.{State, unitState, copyState, state, fresh, Implementation}
 use Rattle.lists.specs.Calls.{Call, lent, left, step, answer, run}
 use Rattle.lists.specs.Calls.Call.{Write, Restore, Read, HandOver}

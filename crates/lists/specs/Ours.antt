@@ -1,10 +1,8 @@
--- The implementation whose functions are the definitions that the contracts cite. Definitions only.
-use Rattle.tables.specs.Write.{write}
-use Rattle.tables.specs.Restore.{restore}
+-- Our implementation: its functions are the definitions that the contracts of `write`, `restore`, `cached_read`, `hand_over` and `shade_block` cite.
+-- Demand3Laws proves demand 3 of it. Definitions only.
+use Rattle.tables.specs.Tables.{write, restore}
 use Rattle.unit.specs.declared.Cache.{Cache}
-use Rattle.unit.specs.Fresh.{freshCache}
-use Rattle.unit.specs.CachedRead.{cachedRead}
-use Rattle.unit.specs.HandOver.{handOver}
+use Rattle.unit.specs.Unit.{freshCache, cachedRead, handOver}
 use Rattle.block_shading.specs.BlockShading.{blockShading}
 use Rattle.lists.specs.States.{Implementation}
 

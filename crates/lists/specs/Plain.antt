@@ -1,10 +1,11 @@
 -- The plain machine of demand 3: "It holds 474 registers and 6144 entries, all zero", and "has no cache, generation or copy". Definitions only.
 use Prim.Native.Nat.{ℕ}
 use mathlib.Core.List.{List, [], _∷_}
-use mathlib.Core.Bool.{Bool, cond, _&&_}
+use mathlib.Core.Bool.{Bool, _&&_}
 use lib.ListN.{length, getD, set, replicate}
 use lib.Dec.{ltb, leb, eqb}
-use Rattle.tables.specs.Upload.{isData, moved, put}
+use Rattle.lighting.specs.Forms.{if_then_else_}
+use Rattle.tables.specs.Tables.{isData, moved, put}
 use Rattle.lists.specs.Calls.{Call, Lent}
 use Rattle.lists.specs.Calls.Call.{Write, Restore, Read, HandOver}
 use Rattle.lists.specs.Calls.Lent.{own, instead}
@@ -44,9 +45,8 @@ zeroMachine = machine (replicate 474 0) (replicate 12288 0)
 unfoldable pub plainWrite : Machine → ℕ → ℕ → Machine
 plainWrite m r v =
     let index = getD (m .registers) 0x1C5 0 in
-    cond (isData r)
-    (machine (set (m .registers) 0x1C5 (moved index)) (put (m .entries) index v))
-    (machine (set (m .registers) r v) (m .entries))
+    if isData r then machine (set (m .registers) 0x1C5 (moved index)) (put (m .entries) index v)
+    else machine (set (m .registers) r v) (m .entries)
 
 -- what an accepted call does
 unfoldable pub does : Machine → Call → Machine
@@ -59,7 +59,7 @@ does m (HandOver f t ct b) = m
 
 -- "Nor does a call that Refusals by operation refuses"
 unfoldable pub plainStep : ℕ → Machine → Call → Machine
-plainStep n m c = cond (accepts n c) (does m c) m
+plainStep n m c = if accepts n c then does m c else m
 
 unfoldable pub plainRun : ℕ → Machine → List Call → Machine
 plainRun n m [] = m

@@ -5,20 +5,20 @@ use native.Mathlib.Omega.{arith}
 use mathlib.Core.Path.{_≡_, refl, sym, ap, _∙_, subst}
 use mathlib.Core.List.{List, [], _∷_}
 use mathlib.Core.Logic.{inl}
-use mathlib.Core.Bool.{Bool, true, false, cond, _&&_, false≢true}
+use mathlib.Core.Bool.{Bool, true, false, cond, _&&_}
 use lib.ListN.{length, take, drop}
 use lib.Seq.{getD-take, take-take}
 use lib.Dec.{leb, eqb, lit<, lit≤, eqb·suc-zero}
-use borrow.Author.Tests.{leb-true}
-use Rattle.refusals.specs.Lengths.{fileRefusal}
-use Rattle.tables.specs.RefusalLaws.{passed, passed-test}
-use Rattle.decoding.specs.RegistersRead.{keptWords}
-use Rattle.decoding.specs.Decode.{decoded}
-use Rattle.decoding.specs.DecodeLaws.{decoded-same}
+use Rattle.flags.specs.FlagsLaws.{both-true}
+use Rattle.refusals.specs.Refusals.{fileRefusal}
+use Rattle.tables.specs.RefusalLaws.{passed-test}
+use Rattle.decoding.specs.Read.{read, registersRead}
+use Rattle.decoding.specs.DecodeLaws.{read-same}
 use Rattle.unit.specs.declared.Cache.{Cache}
-use Rattle.decoding.specs.Comparing.{sameWords}
+use Rattle.sources.specs.Sources.{sameWords}
 use Rattle.decoding.specs.ComparingLaws.{same-equal}
-use Rattle.unit.specs.CachedRead.{current, readAnew, refreshed, cachedReadIf}
+use Rattle.unit.specs.HandOverLaws.{long-file}
+use Rattle.unit.specs.Unit.{current, readAnew, refreshed, cachedReadIf}
 use Rattle.lists.specs.Ours.{ours}
 use Rattle.lists.specs.States.{State, unitState, state}
 use Rattle.lists.specs.Calls.{Lent, ShortFile, lent, step, answer}
@@ -36,41 +36,32 @@ part-take a (suc b) zero f h = absurd (omega arith)
 part-take a (suc b) (suc c) [] h = refl
 part-take a (suc b) (suc c) (x ∷ xs) h = part-take a b c xs (omega arith)
 
-pub kept-first : (f : List ℕ) → keptWords (take 474 f) ≡ keptWords f
-unfolding keptWords
+kept-first : (f : List ℕ) → registersRead (take 474 f) ≡ registersRead f
+unfolding registersRead
 kept-first f =
     rw (getD-take 474 f 0x08F 0 (lit< tt), part-take 133 0x140 474 f (lit≤ tt), getD-take 474 f 0x1C6 0 (lit< tt), part-take 3 0x1D0 474 f (lit≤ tt), getD-take 474 f 0x1D9 0 (lit< tt))
 
-both-true : (a b : Bool) → (a && b) ≡ true → (a ≡ true) × (b ≡ true)
-both-true true b e = (refl, e)
-both-true false b e = absurd (false≢true e)
-
--- a file past its refusal
-long : (n : ℕ) → fileRefusal n ≡ 0 → 474 ≤ n
-unfolding fileRefusal
-long n e = leb-true 474 n (passed (leb 474 n) 0 e)
-
 -- a read of a sound cache gives the file's lighting, and leaves the cache sound
-pub read-sound : (f : List ℕ) (c : Cache) → Sound c → (refreshed f c .decoded ≡ decoded f) × Sound (refreshed f c)
+pub read-sound : (f : List ℕ) (c : Cache) → Sound c → (refreshed f c .decoded ≡ read f) × Sound (refreshed f c)
 unfolding refreshed current readAnew
-read-sound f c g = go (c .filled && sameWords (c .kept) (keptWords f)) refl
+read-sound f c g = go (c .filled && sameWords (c .kept) (registersRead f)) refl
   where
     made : Cache
-    made = record { filled = true; kept = keptWords f; decoded = decoded f }
+    made = record { filled = true; kept = registersRead f; decoded = read f }
 
-    go : (b : Bool) → (c .filled && sameWords (c .kept) (keptWords f)) ≡ b → (cond b c made .decoded ≡ decoded f) × Sound (cond b c made)
+    go : (b : Bool) → (c .filled && sameWords (c .kept) (registersRead f)) ≡ b → (cond b c made .decoded ≡ read f) × Sound (cond b c made)
     go true e =
-        let both = both-true (c .filled) (sameWords (c .kept) (keptWords f)) e in
-        (sym (g (both .0) f (sym (same-equal (c .kept) (keptWords f) (both .1)))), g)
-    go false e = (refl, λ _ r p. decoded-same r f p)
+        let both = both-true (c .filled) (sameWords (c .kept) (registersRead f)) e in
+        (sym (g (both .0) f (sym (same-equal (c .kept) (registersRead f) (both .1)))), g)
+    go false e = (refl, λ _ r p. read-same r f p)
 
 module _ {n k : ℕ} {s : State Cache} {m : Machine} (i : Inv n k s m) where
   -- the file's lighting is the machine's
-  pub decodes : refreshed (s .unit .file) (s .unit .cache) .decoded ≡ decoded (m .registers)
+  pub decodes : refreshed (s .unit .file) (s .unit .cache) .decoded ≡ read (m .registers)
   decodes =
       read-sound (s .unit .file) (s .unit .cache) (i .unit .sound) .0
-      ∙ decoded-same (s .unit .file) (take 474 (s .unit .file)) (sym (kept-first (s .unit .file)))
-      ∙ ap decoded (i .unit .registers)
+      ∙ read-same (s .unit .file) (take 474 (s .unit .file)) (sym (kept-first (s .unit .file)))
+      ∙ ap read (i .unit .registers)
 
   -- the unit's refusal by its length is the machine's
   pub accepts-read : (f : Lent ShortFile) → eqb (fileRefusal (length (lent (s .unit .file) f))) 0 ≡ accepts n (Read f)
@@ -80,7 +71,7 @@ module _ {n k : ℕ} {s : State Cache} {m : Machine} (i : Inv n k s m) where
       ∙ ap (λ (a : ℕ). leb 474 a) (size-lent (s .unit .file) f (i .unit .fileLength))
 
   -- unit and copy with another cache
-  abbrev pub cachedWith : Cache → State Cache
+  abbrev cachedWith : Cache → State Cache
   cachedWith c = state (unitState (s .unit .file) (s .unit .tables) (s .unit .generation) c) (s .copy)
 
   -- the unit with the cache that a read of its own file leaves
@@ -105,7 +96,7 @@ module _ {n k : ℕ} {s : State Cache} {m : Machine} (i : Inv n k s m) where
       go : (q : ℕ) → fileRefusal (length (lent (s .unit .file) f)) ≡ q → Inv n (suc k) (cachedWith (cachedReadIf q (lent (s .unit .file) f) (s .unit .cache) .cache)) (cond (eqb q 0) m m)
       go (suc q) e = rw (eqb·suc-zero q) (stays i)
       go zero e =
-          let fe : f ≡ own = is-own (s .unit .file) f (λ p. omega (arith, long (length (lent (s .unit .file) f)) e)) in
+          let fe : f ≡ own = is-own (s .unit .file) f (λ p. omega (arith, long-file (length (lent (s .unit .file) f)) e)) in
           rw fe reads-own
 
   -- what a cached read answers

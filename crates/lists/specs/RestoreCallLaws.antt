@@ -7,7 +7,7 @@ use mathlib.Core.Logic.{inr}
 use mathlib.Core.Bool.{Bool, cond, _&&_}
 use lib.ListN.{length}
 use lib.Dec.{eqb, eqb·suc-zero}
-use Rattle.tables.specs.Restore.{Restored, restoreRefusal, restoreIf}
+use Rattle.tables.specs.Tables.{Restored, restoreRefusal, restoreIf}
 use Rattle.tables.specs.RestoreLaws.{restore-number}
 use Rattle.tables.specs.RefusalLaws.{restore-lengths, restore-test}
 use Rattle.unit.specs.declared.Cache.{Cache}

@@ -3,11 +3,9 @@
 use Prim.Native.Nat.{ℕ}
 use mathlib.Core.List.{List}
 use lib.ListN.{replicate}
-use Rattle.tables.specs.Write.{Wrote}
-use Rattle.tables.specs.Restore.{Restored}
-use Rattle.unit.specs.CachedRead.{Cached}
-use Rattle.unit.specs.HandOver.{Handed}
-use Rattle.block_shading.specs.BlockShading.{Shaded}
+use Rattle.tables.specs.Tables.{Wrote, Restored}
+use Rattle.unit.specs.Unit.{Cached, Handed}
+use Rattle.shading.specs.Shade.{Shaded}
 
 -- "A unit is a register file (at least 474 words; only the first 474 count), a table slice (12,288 words: ..), a 64-bit generation and a cache."
 pub record UnitState (C : Type 0) : Type 0 where

@@ -9,10 +9,8 @@ use mathlib.Core.Bool.{Bool, true, false, cond, _&&_}
 use lib.ListN.{length, set, length-set}
 use lib.Seq.{take-set-lt, getD-take}
 use lib.Dec.{ltb, leb, eqb, lit<, eqb·suc-zero}
-use Rattle.tables.specs.Upload.{isData, index, moved, put, changes}
+use Rattle.tables.specs.Tables.{isData, index, moved, put, changes, raised, Wrote, writeRefusal, writeIf, write}
 use Rattle.tables.specs.UploadLaws.{length-put, put-same}
-use Rattle.tables.specs.Generation.{raised}
-use Rattle.tables.specs.Write.{Wrote, writeRefusal, writeIf, write}
 use Rattle.tables.specs.WriteLaws.{write-data, write-register, write-number}
 use Rattle.tables.specs.RefusalLaws.{write-lengths, write-test}
 use Rattle.unit.specs.declared.Cache.{Cache}

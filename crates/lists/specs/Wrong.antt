@@ -1,16 +1,15 @@
--- Wrong implementations, each ours but for one call: the four of which document 01 says that they fail by demand 3, and three that are wrong in
--- less, a shader that paints one colour only where the lighting is on and two hand-overs that leave only the copy's tables. Definitions only.
+-- Serves only the proofs that demand 3 refuses them: wrong implementations, each ours but for one call. Four are those of which document 01 says
+-- that they fail by demand 3; three are wrong in less, a shader that paints one colour only where the lighting is on and two hand-overs that leave
+-- only the copy's tables. Definitions only.
 use Prim.Native.Nat.{ℕ}
 use mathlib.Core.List.{List}
 use mathlib.Core.Bool.{cond}
 use lib.Dec.{eqb}
-use Rattle.tables.specs.Write.{write, wrote}
-use Rattle.tables.specs.Restore.{restore}
+use Rattle.tables.specs.Tables.{write, wrote, restore}
 use Rattle.unit.specs.declared.Cache.{Cache}
-use Rattle.unit.specs.Fresh.{freshCache}
-use Rattle.unit.specs.CachedRead.{cachedRead}
-use Rattle.unit.specs.HandOver.{Handed, handed, handOver}
-use Rattle.block_shading.specs.BlockShading.{Shaded, shaded, blockShading}
+use Rattle.unit.specs.Unit.{freshCache, cachedRead, Handed, handed, handOver}
+use Rattle.shading.specs.Shade.{Shaded, shaded}
+use Rattle.block_shading.specs.BlockShading.{blockShading}
 use Rattle.lists.specs.States.{Implementation}
 
 -- "A unit that refuses every write"

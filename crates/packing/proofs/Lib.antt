@@ -1,2 +1,2 @@
-mod Parts
-mod Answers
+mod Slots
+mod PackAnswers

@@ -1,2 +1,2 @@
 mod Cases
-mod Parts
+mod Light

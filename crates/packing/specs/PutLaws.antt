@@ -6,7 +6,7 @@ use mathlib.Core.Path.{_≡_, refl, sym, ap, _∙_}
 use mathlib.Core.List.{List, [], _∷_, _++_, append-nil}
 use lib.ListN.{length, set, replicate, length-replicate, replicate-append-replicate, drop-of-length-le}
 use lib.Seq.{sets, length-sets, sets-eq}
-use Rattle.packing.specs.Put.{putWords}
+use Rattle.packing.specs.Steps.{putWords}
 
 sets-append : (b : List ℕ) (i : ℕ) (xs ys : List ℕ) → sets (sets b i xs) (i + length xs) ys ≡ sets b i (xs ++ ys)
 sets-append b i [] ys = ap (λ (k : ℕ). sets b k ys) (add-zero i)
@@ -14,7 +14,7 @@ sets-append b i (x ∷ xs) ys =
     ap (λ (k : ℕ). sets (sets (set b i x) (suc i) xs) k ys) (add-suc i (length xs) ∙ sym (suc-add i (length xs)))
     ∙ sets-append (set b i x) (suc i) xs ys
 
-pub put-append : (b : List ℕ) (i n : ℕ) (xs ys : List ℕ) → length xs ≡ n → putWords (putWords b i xs) (i + n) ys ≡ putWords b i (xs ++ ys)
+put-append : (b : List ℕ) (i n : ℕ) (xs ys : List ℕ) → length xs ≡ n → putWords (putWords b i xs) (i + n) ys ≡ putWords b i (xs ++ ys)
 unfolding putWords
 put-append b i n xs ys e = ap (λ (k : ℕ). sets (sets b i xs) (i + k) ys) (sym e) ∙ sets-append b i xs ys
 

@@ -4,8 +4,8 @@ use lighting::Light;
 use lighting::OptionalShadow;
 ghost use mathlib.Core.Path.{_≡_};
 ghost use Prim.Native.Nat.{_*_, _≤_};
-ghost use Rattle.block.specs.Words.{flagWord, bumpWord, shadowWord, flagsWord};
-ghost use Rattle.block.specs.Answers.{bumpUnit, shadowUnit};
+ghost use Rattle.block.specs.Block.{flagWord, bumpWord, shadowWord, flagsWord};
+ghost use Rattle.lighting.specs.Lighting.{bumpUnit, shadowUnit};
 
 // `weight` where the flag is set.
 pub(crate) fn flag(set: bool, weight: u32) -> u32
@@ -58,7 +58,7 @@ pub(crate) fn flags_word(l: Light) -> u32
         + flag(l.two_sided, 2)
         + flag(l.geometric0, 4)
         + flag(l.geometric1, 8)
-        + flag(block::is_scaled(distance), 16)
+        + flag(lighting::is_scaled(distance), 16)
         + flag(l.spotlight, 32)
         + flag(l.shadowed, 64)
 }

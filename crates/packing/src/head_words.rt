@@ -10,10 +10,9 @@ use lighting::OptionalLookup;
 ghost use mathlib.Core.Path.{_≡_};
 ghost use mathlib.Core.Bool.{true};
 ghost use lib.ListN.{length};
-ghost use Rattle.block.specs.Words.{headWords};
-ghost use Rattle.block.specs.Answers.{inRange};
-ghost use Rattle.packing.specs.Put.{putWords};
-ghost use Rattle.packing.specs.HeadWordsParts.{lookupsWords};
+ghost use Rattle.block.specs.Block.{headWords};
+ghost use Rattle.lighting.specs.Lighting.{inRange};
+ghost use Rattle.packing.specs.Steps.{putWords, lookupsWords};
 
 // The seven lookups.
 fn put_lookups(block: &mut [u32], l: Lighting)

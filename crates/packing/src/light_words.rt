@@ -5,12 +5,10 @@ use crate::rows::put_vector;
 use lighting::Distance;
 use lighting::Light;
 ghost use mathlib.Core.Path.{_≡_};
-ghost use mathlib.Core.List.{[], _∷_};
 ghost use Prim.Native.Nat.{_+_, _≤_};
 ghost use lib.ListN.{length};
-ghost use Rattle.packing.specs.Put.{putWords};
-ghost use Rattle.packing.specs.Parts.{coloursWords, placesWords};
-ghost use Rattle.block.specs.Words.{biasWord, distanceScaleWord, lightWords};
+ghost use Rattle.packing.specs.Steps.{putWords, coloursWords, placesWords};
+ghost use Rattle.block.specs.Block.{distanceWords, lightWords};
 
 fn put_colours(block: &mut [u32], at: usize, l: Light)
     requires { ⌜ at + 16 ≤ length (now block) ⌝ }
@@ -41,7 +39,7 @@ fn put_places(block: &mut [u32], at: usize, l: Light)
 // Bias, scale and padding.
 fn put_distance(block: &mut [u32], at: usize, distance: Distance)
     requires { ⌜ at + 4 ≤ length (now block) ⌝ }
-    ensures { λ _. ⌜ now (block .exit) ≡ putWords (now (block .entry)) at (biasWord distance ∷ distanceScaleWord distance ∷ 0 ∷ 0 ∷ []) ⌝ }
+    ensures { λ _. ⌜ now (block .exit) ≡ putWords (now (block .entry)) at (distanceWords distance) ⌝ }
 {
     match distance {
         Distance::Without => put_row(block, at, 0, 0, 0, 0),

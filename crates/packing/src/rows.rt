@@ -4,8 +4,8 @@ ghost use mathlib.Core.Path.{_≡_};
 ghost use mathlib.Core.List.{[], _∷_};
 ghost use Prim.Native.Nat.{_+_, _≤_};
 ghost use lib.ListN.{length, replicate};
-ghost use Rattle.packing.specs.Put.{putWords};
-ghost use Rattle.block.specs.Words.{lookupWords, vectorWords};
+ghost use Rattle.packing.specs.Steps.{putWords};
+ghost use Rattle.block.specs.Block.{lookupWords, vectorWords};
 
 // Four words from `at` on: the block is rows of four.
 pub(crate) fn put_row(block: &mut [u32], at: usize, a: u32, b: u32, c: u32, d: u32)

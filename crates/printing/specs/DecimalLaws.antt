@@ -5,7 +5,7 @@ use mathlib.Core.List.{[], _∷_}
 use mathlib.Core.Bool.{Bool, true, false, cond}
 use lib.ListN.{length}
 use lib.Dec.{ltb}
-use Rattle.printing.specs.Decimal.{digitByte, decimal}
+use Rattle.printing.specs.Printing.{digitByte, decimal}
 
 pub decimal-most : (k : ℕ) → length (decimal k) ≤ 3
 unfolding decimal

@@ -1,7 +1,6 @@
-pub mod Text
-pub mod TextLaws
-pub mod Writing
+pub mod Printing
+pub mod Steps
+pub mod DecimalLaws
 pub mod PieceLaws
 pub mod WritingLaws
-pub mod Decimal
-pub mod DecimalLaws
+pub mod TextLaws

@@ -8,12 +8,11 @@ use mathlib.Core.Bool.{Bool, true, false, cond}
 use lib.ListN.{length, getD, drop, set, length-append}
 use lib.Dec.{eqb}
 use borrow.Author.Tests.{eqb-true, eqb-false}
-use Rattle.printing.specs.Writing.{Out, out, puts}
+use Rattle.printing.specs.Steps.{Out, out, puts}
 use Rattle.printing.specs.WritingLaws.{puts-more}
 use Rattle.printing.specs.PieceLaws.{drop-one, drop-none}
-use Rattle.printing.specs.Decimal.{decimal}
+use Rattle.printing.specs.Printing.{decimal, gap, line, refusedLine}
 use Rattle.printing.specs.DecimalLaws.{decimal-most}
-use Rattle.printing.specs.Text.{gap, line, refusedLine}
 
 pub line-most : (l : List ℕ) → length (line l) ≤ 4 * length l
 unfolding line

@@ -2,9 +2,10 @@
 ghost use mathlib.Core.Path.{_≡_};
 ghost use Prim.Native.Nat.{_+_, _≤_, _<_};
 ghost use lib.ListN.{length};
-ghost use Rattle.printing.specs.Writing.{out as outAt, puts};
-ghost use Rattle.printing.specs.Decimal.{digitByte, decimal};
+ghost use Rattle.printing.specs.Steps.{out as outAt, puts};
+ghost use Rattle.printing.specs.Printing.{digitByte, decimal};
 
+// The byte of a digit.
 fn digit(n: u32) -> u8
     requires { ⌜ n < 10 ⌝ }
     ensures { λ r. ⌜ r ≡ digitByte n ⌝ }

@@ -1,7 +1,6 @@
 // The text that a capture prints, written into a buffer from a place on: a fragment's line, `off`, `refused N`. Each function answers the
-// place after what it wrote, and no line is longer than 32 bytes.
+// place after what it wrote, and no line is longer than 32 bytes. `decimals` writes a number, and is read first; the lines stand here.
 mod decimals;
-mod writing;
 
 use crate::decimals::put_decimal;
 ghost use mathlib.Core.Path.{_≡_};
@@ -9,8 +8,8 @@ ghost use mathlib.Core.Bool.{cond};
 ghost use lib.Dec.{eqb};
 ghost use Prim.Native.Nat.{_+_, _≤_, _<_};
 ghost use lib.ListN.{length};
-ghost use Rattle.printing.specs.Writing.{out as outAt, puts};
-ghost use Rattle.printing.specs.Text.{line, offLine, refusedLine, Bytes};
+ghost use Rattle.printing.specs.Steps.{out as outAt, puts, Bytes};
+ghost use Rattle.printing.specs.Printing.{line, offLine, refusedLine};
 
 // What follows number i of a line of eight.
 fn gap_after(i: usize) -> u8
@@ -20,6 +19,7 @@ fn gap_after(i: usize) -> u8
 }
 
 // The eight k of a fragment.
+// Asks: room for the longest line and numbers of at most three digits; the caller lends one buffer for all lines, and what does not fit would have no answer.
 pub fn put_line(out: &mut [u8], at: usize, k: [u32; 8]) -> usize
     requires { ⌜ at + 32 ≤ length (now out) ⌝ }
     requires { ⌜ Bytes k ⌝ }
@@ -36,6 +36,8 @@ pub fn put_line(out: &mut [u8], at: usize, k: [u32; 8]) -> usize
     next
 }
 
+// The line of a fragment where the lighting is off.
+// Asks: room for its four bytes.
 pub fn put_off(out: &mut [u8], at: usize) -> usize
     requires { ⌜ at + 4 ≤ length (now out) ⌝ }
     ensures { λ r. ⌜ (outAt (now (out .exit)) r ≡ puts (outAt (now (out .entry)) at) offLine) × (r ≤ at + 4) ⌝ }
@@ -47,6 +49,7 @@ pub fn put_off(out: &mut [u8], at: usize) -> usize
     at + 4
 }
 
+// A text as it is.
 fn put_text(out: &mut [u8], at: usize, text: &[u8]) -> usize
     requires { ⌜ at + length (now text) ≤ length (now out) ⌝ }
     ensures { λ r. ⌜ (outAt (now (out .exit)) r ≡ puts (outAt (now (out .entry)) at) (now (text .entry))) × (r ≡ at + length (now (text .entry))) ⌝ }
@@ -59,6 +62,8 @@ fn put_text(out: &mut [u8], at: usize, text: &[u8]) -> usize
     at + i
 }
 
+// The line of a refusal.
+// Asks: room for its longest, and a number of at most three digits, as every refusal has.
 pub fn put_refused(out: &mut [u8], at: usize, number: u32) -> usize
     requires { ⌜ (at + 12 ≤ length (now out)) × (number < 1000) ⌝ }
     ensures { λ r. ⌜ (outAt (now (out .exit)) r ≡ puts (outAt (now (out .entry)) at) (refusedLine number)) × (r ≤ at + 12) ⌝ }

@@ -1,6 +1,6 @@
-// Document 01's refusals, one case for each of its numbers, and what a call answers that brings nothing else.
+// Document 01's refusals, one case for each of its numbers, and what a call answers that brings nothing else: that it is done, or its refusal.
 ghost use mathlib.Core.Path.{_≡_};
-ghost use Rattle.refusals.specs.Numbers.{numberOf, outcomeNumber};
+ghost use Rattle.refusals.specs.Refusals.{numberOf, outcomeNumber};
 
 pub enum Refusal {
     // 1: a register file under 474 words
@@ -28,6 +28,7 @@ pub enum Outcome {
     Refused(Refusal),
 }
 
+// The paper's number.
 pub fn number(refusal: Refusal) -> u32
     ensures { λ r. ⌜ r ≡ numberOf refusal ⌝ }
 {

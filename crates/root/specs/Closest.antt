@@ -1,4 +1,5 @@
--- What it means that r is the value of binary32 that is nearest to the root of x, for an x above zero: said with whole numbers, and of every other finite value. Definitions only.
+-- What it means that r is the value of binary32 that is nearest to the root of x, for an x above zero: said with whole numbers, and of every other finite value. Statements only:
+-- it is proved of `rootOf` (proofs/Closest).
 -- In units of the smallest value, 2 ^ -149, let x be N, r be R and another value y be Y or -Y. The root of x is then the root of the whole number n = N * 2 ^ 149.
 use mathlib.Core.Path.{_≡_}
 use Prim.Native.Nat.{ℕ, _+_, _-_, _*_, _^_, _<_}

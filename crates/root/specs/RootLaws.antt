@@ -14,11 +14,6 @@ use lib.Ieee.Bits.{is-false}
 use lib.Ieee.Fits.{odd-fits, nan-fits, inf-fits, nearest-le, kept-lt}
 use Rattle.root.specs.Root.{isqrt, againstMiddle, rootUnits, inUnits, rootOf}
 
--- ---- a NaN's root is a NaN
-pub root-of-nan : rootOf nan ≡ nan
-unfolding rootOf
-root-of-nan = refl
-
 -- ---- binary32 holds the root
 pub units-fits : (f : Format) (q k : ℕ) → q ≤ 2 ^ prec f → T (fits f (units f false q k))
 unfolding units

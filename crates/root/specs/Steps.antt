@@ -1,4 +1,4 @@
--- What the functions below `root` ensure, on whole numbers. Definitions only.
+-- What the functions below `root` ensure, on whole numbers; nobody has to trust it: the contract of `root` cites the law, `rootOf` of Root. Definitions only.
 use mathlib.Core.Path.{_≡_}
 use Prim.Native.Nat.{ℕ, _+_, _-_, _*_, _/_, _%_, _^_, _≤_, _<_}
 use lib.Ieee.{binary32, ofBits}

@@ -1,10 +1,4 @@
 pub mod Shade
+pub mod Steps
 pub mod ShadeLaws
-pub mod Answers
-pub mod LawLaws
-pub mod Parts
-pub mod Sums
-pub mod Numbered
-pub mod Channels
-pub mod LawShade
-pub mod Read
+pub mod AlphaLaws

@@ -3,6 +3,7 @@ ghost use mathlib.Core.Path.{_≡_};
 ghost use lib.ListN.{length};
 
 // The eight channels into the answer slice.
+// Asks: an answer of 8 words; any other is refused before a channel is worked out.
 pub fn put(answer: &mut [u32], k: [u32; 8])
     requires { ⌜ length (now answer) ≡ 8 ⌝ }
     ensures { λ _. ⌜ now (answer .exit) ≡ k ⌝ }

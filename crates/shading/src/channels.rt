@@ -1,6 +1,6 @@
 // How the sums end as eight channels.
 ghost use mathlib.Core.Path.{_≡_};
-ghost use Rattle.shading.specs.Channels.{shadowedAlpha, finishOf};
+ghost use Rattle.shading.specs.Steps.{shadowedAlpha, finishOf};
 use flags::both;
 use surface::types::Sums;
 

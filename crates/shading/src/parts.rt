@@ -2,16 +2,16 @@
 ghost use mathlib.Core.Path.{_≡_};
 ghost use mathlib.Core.Bool.{true};
 ghost use Prim.Native.Nat.{_≤_};
-ghost use Rattle.block.specs.Answers.{inRange};
-ghost use Rattle.shading.specs.Parts.{lightingLookups, lightingSettings, lightingFrame, lightingShadow, texelOf, finishedOf};
+ghost use Rattle.lighting.specs.Lighting.{inRange};
+ghost use Rattle.shading.specs.Steps.{lightingLookups, lightingSettings, lightingFrame, lightingShadow, texelOf, finishedOf};
 use crate::channels;
 use lighting::Lighting;
 use surface::types::Frame;
-use surface::types::Lookups;
+use surface::types::LightingLookups;
 use surface::types::Settings;
 use surface::types::Sums;
 
-pub fn lookups_of(l: Lighting) -> Lookups
+pub fn lookups_of(l: Lighting) -> LightingLookups
     ensures { λ r. ⌜ r ≡ lightingLookups l ⌝ }
 {
     let distribution0 = l.distribution0;
@@ -21,7 +21,7 @@ pub fn lookups_of(l: Lighting) -> Lookups
     let reflect_green = l.reflect_green;
     let reflect_blue = l.reflect_blue;
     let spotlight = l.spotlight;
-    Lookups {
+    LightingLookups {
         config: l.config,
         needs_half: l.needs_half,
         distribution0,
@@ -34,19 +34,19 @@ pub fn lookups_of(l: Lighting) -> Lookups
     }
 }
 
-pub fn settings_of(l: Lighting, texel: [f32; 4]) -> Settings
-    ensures { λ r. ⌜ r ≡ lightingSettings l texel ⌝ }
+pub fn settings_of(l: Lighting, shadow: [f32; 4]) -> Settings
+    ensures { λ r. ⌜ r ≡ lightingSettings l shadow ⌝ }
 {
-    let shadow = l.shadow;
+    let optional = l.shadow;
     let fresnel = l.fresnel;
     let on = light_steps::values::present(fresnel);
     Settings {
         clamp_highlights: l.clamp_highlights,
-        shadow_primary: surface::shadow::primary_of(shadow),
-        shadow_secondary: surface::shadow::secondary_of(shadow),
-        shadow: texel,
-        fresnel_primary: flags::both(on, l.fresnel_primary),
-        fresnel_secondary: flags::both(on, l.fresnel_secondary),
+        shadow_primary: surface::shadow::primary_of(optional),
+        shadow_secondary: surface::shadow::secondary_of(optional),
+        shadow,
+        fresnel_sets_primary: flags::both(on, l.fresnel_primary),
+        fresnel_sets_secondary: flags::both(on, l.fresnel_secondary),
     }
 }
 
@@ -67,7 +67,7 @@ pub(crate) fn frame_of(
     ensures { λ r. ⌜ r ≡ lightingFrame l quaternion view texels ⌝ }
 {
     let bump = l.bump;
-    let texel = texel_of(texels, block::bump_unit(bump));
+    let texel = texel_of(texels, lighting::bump_unit(bump));
     surface::frame_of(bump, texel, l.config, l.needs_view, quaternion, view)
 }
 
@@ -76,23 +76,23 @@ pub(crate) fn shadow_of(l: Lighting, texels: [[f32; 4]; 4]) -> [f32; 4]
     ensures { λ r. ⌜ r ≡ lightingShadow l texels ⌝ }
 {
     let shadow = l.shadow;
-    let texel = texel_of(texels, block::shadow_unit(shadow));
+    let texel = texel_of(texels, lighting::shadow_unit(shadow));
     surface::shadow::shadow_texel(shadow, texel)
 }
 
 // The channels from the sums.
-pub fn finished(l: Lighting, sums: Sums, texel: [f32; 4]) -> [u32; 8]
-    ensures { λ r. ⌜ r ≡ finishedOf l sums texel ⌝ }
+pub fn finished(l: Lighting, sums: Sums, shadow: [f32; 4]) -> [u32; 8]
+    ensures { λ r. ⌜ r ≡ finishedOf l sums shadow ⌝ }
 {
-    let shadow = l.shadow;
+    let optional = l.shadow;
     let ambient = l.global_ambient;
-    let alpha = surface::shadow::alpha_of(shadow);
+    let alpha = surface::shadow::alpha_of(optional);
     channels::finish(
         sums,
         alpha,
         l.fresnel_primary,
         l.fresnel_secondary,
-        texel,
+        shadow,
         ambient,
     )
 }

@@ -3,17 +3,17 @@ ghost use mathlib.Core.Path.{_≡_};
 ghost use Prim.Native.Nat.{_+_, _≤_, _<_};
 ghost use lib.Dec.{eqb};
 ghost use lib.ListN.{length};
-ghost use Rattle.shading.specs.Numbered.{Numbered};
-ghost use Rattle.sources.specs.Sources.{given};
-ghost use Rattle.shading.specs.Sums.{sumsBy};
+ghost use Rattle.shading.specs.Steps.{Numbered, sumsBy};
+ghost use Rattle.sources.specs.Steps.{given};
 use lighting::Light;
 use lighting::Slot;
 use surface::types::Frame;
-use surface::types::Lookups;
+use surface::types::LightingLookups;
 use surface::types::Settings;
 use surface::types::Sums;
 
 // Only the last slot lit applies fresnel.
+// Asks: one of the eight slots, since the one after the last number there is would not fit.
 pub fn is_last(slot: Slot, count: usize) -> bool
     requires { ⌜ slot .0 < 8 ⌝ }
     ensures { λ r. ⌜ r ≡ eqb (slot .0 + 1) count ⌝ }
@@ -24,7 +24,7 @@ pub fn is_last(slot: Slot, count: usize) -> bool
 pub(crate) fn sum_lights(
     tables: &[u32],
     bytes: &[u8],
-    lookups: Lookups,
+    lookups: LightingLookups,
     frame: Frame,
     settings: Settings,
     lights: [Light; 8],
@@ -37,12 +37,13 @@ pub(crate) fn sum_lights(
         diffuse: [0.0, 0.0, 0.0, 1.0],
         specular: [0.0, 0.0, 0.0, 1.0],
     };
-    let mut i = 0;
-    while i < count {
-        let light = lights[i];
-        let last = is_last(Slot(i), count);
+    let mut slot = Slot(0);
+    while slot.0 < count {
+        let at = slot.0;
+        let light = lights[at];
+        let last = is_last(slot, count);
         sums = light_steps::step(tables, bytes, lookups, frame, settings, last, light, sums);
-        i += 1;
+        slot.0 += 1;
     }
     sums
 }

@@ -1,8 +1,9 @@
--- Shading of many fragments from one block: what it leaves is block shading of the last. Definitions only.
+-- For tests alone: shading of many fragments from one block; what it leaves is block shading of the last. Definitions only.
 use Prim.Native.Nat.{ℕ, _-_, _*_, _/_}
 use mathlib.Core.List.{List}
 use lib.ListN.{length, take, drop}
-use Rattle.block_shading.specs.BlockShading.{Shaded, blockShading}
+use Rattle.shading.specs.Shade.{Shaded}
+use Rattle.block_shading.specs.BlockShading.{blockShading}
 
 -- the words of the fragment with this number, from 0 on
 unfoldable pub fragmentAt : List ℕ → ℕ → List ℕ

@@ -1,4 +1,4 @@
--- A list of at least 23 words has a last fragment, of 23 words, and a shorter one has none. Both are arithmetic on the lengths of its parts. Assumes nothing.
+-- For tests alone: a list of at least 23 words has a last fragment, of 23 words, and a shorter one has none. Both are arithmetic on the lengths of its parts. Assumes nothing.
 use Prim.Native.Nat.{ℕ, _+_, _-_, _*_, _/_, _<_, _≤_}
 use native.Mathlib.Omega.{arith}
 use mathlib.Core.Path.{_≡_, refl}

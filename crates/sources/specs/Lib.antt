@@ -1,2 +1,3 @@
 pub mod Sources
 pub mod SourcesLaws
+pub mod Steps

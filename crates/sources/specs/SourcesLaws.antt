@@ -1,12 +1,13 @@
 -- Word i of some bytes is made of the four from 4 i on, and there are a quarter as many words as bytes, by induction four bytes at a time.
--- With no bytes the words are those of the slice of words, with some they are those of the bytes, by the length's test.
+-- With no bytes the words are those of the slice of words, with some they are those of the bytes, by the length's test. Assumes nothing.
 use Prim.Native.Nat.{ℕ, zero, suc, _+_, _*_, _/_, _≤_, _<_}
 use native.Mathlib.Omega.{arith}
 use mathlib.Core.Path.{_≡_, refl}
 use mathlib.Core.List.{List, [], _∷_}
 use borrow.Author.Tests.{eq-eqb, ne-eqb}
 use lib.ListN.{length, getD}
-use Rattle.sources.specs.Sources.{wordsOf, given, wordAt}
+use Rattle.sources.specs.Sources.{wordsOf}
+use Rattle.sources.specs.Steps.{given, wordAt}
 
 pub length-words : (l : List ℕ) → length (wordsOf l) ≡ length l / 4
 unfolding wordsOf

@@ -3,7 +3,7 @@
 ghost use mathlib.Core.Path.{_≡_};
 ghost use Prim.Native.Nat.{_≤_, _<_, _/_};
 ghost use lib.ListN.{length, getD};
-ghost use Rattle.sources.specs.Sources.{given, wordAt};
+ghost use Rattle.sources.specs.Steps.{given, wordAt};
 
 // How many words there are. Bytes left over at the end are no word.
 pub fn count(words: &[u32], bytes: &[u8]) -> usize
@@ -32,6 +32,8 @@ fn word_of(bytes: &[u8], at: usize) -> u32
         + 0x100_0000 * wide(bytes[4 * at + 3])
 }
 
+// Word number `at`.
+// Asks: there is such a word; the caller has counted them once for all its reads.
 pub fn word(words: &[u32], bytes: &[u8], at: usize) -> u32
     requires { ⌜ at < length (given (now words) (now bytes)) ⌝ }
     ensures { λ r. ⌜ r ≡ getD (given (now (words .entry)) (now (bytes .entry))) at 0 ⌝ }

@@ -1,6 +1,6 @@
 // The surface before it is turned: the normal and the tangent that a texel gives.
 ghost use mathlib.Core.Path.{_≡_};
-ghost use Rattle.surface.specs.Bump.{perturbed as perturbedOf, rebuiltZ, rebuilt as rebuiltOf, surfaceNormal, surfaceTangent};
+ghost use Rattle.surface.specs.Steps.{perturbed as perturbedOf, rebuiltZ, rebuilt as rebuiltOf, surfaceNormal, surfaceTangent};
 use lighting::Bump;
 
 fn perturbed(t: [f32; 4]) -> [f32; 3]

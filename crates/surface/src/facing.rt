@@ -1,11 +1,11 @@
 // How much a surface faces a light, and what follows from that: the highlights and the geometric factor.
 ghost use mathlib.Core.Path.{_≡_};
-ghost use Rattle.surface.specs.Facing.{facingOf, highlightsOf, factorBy};
+ghost use Rattle.surface.specs.Steps.{facingOf, highlightsOf, factorBy};
 
-pub fn facing_of(both: bool, x: f32) -> f32
-    ensures { λ r. ⌜ r ≡ facingOf both x ⌝ }
+pub fn facing_of(twosided: bool, x: f32) -> f32
+    ensures { λ r. ⌜ r ≡ facingOf twosided x ⌝ }
 {
-    if both {
+    if twosided {
         binary32::order::magnitude(x)
     } else {
         binary32::order::positive(x)
@@ -23,12 +23,12 @@ pub fn highlights_of(clamp: bool, facing: f32) -> f32
 }
 
 // The geometric factor, from the dot of the half vector with itself.
-pub fn factor_by(facing: f32, length: f32) -> f32
-    ensures { λ r. ⌜ r ≡ factorBy facing length ⌝ }
+pub fn factor_by(facing: f32, squared: f32) -> f32
+    ensures { λ r. ⌜ r ≡ factorBy facing squared ⌝ }
 {
-    if length == 0.0 {
+    if squared == 0.0 {
         0.0
     } else {
-        binary32::order::at_most_one(facing / length)
+        binary32::order::at_most_one(facing / squared)
     }
 }

@@ -1,16 +1,17 @@
-// What every light sees of a fragment: the normal and the tangent, turned by the quaternion, and the view.
+// What every light sees of a fragment: the normal and the tangent, turned by the quaternion, and the view. Before it `shadow` and `bump` have what a texel gives, after it
+// `facing` how far a surface faces a light; `types` is what shading passes from one step to the next.
 mod bump;
 pub mod facing;
 pub mod shadow;
 pub mod types;
 
 ghost use mathlib.Core.Path.{_≡_};
-ghost use Rattle.surface.specs.Surface.{lengthOf, unitQuaternion, tangentOf, unitIf, frameOf};
+ghost use Rattle.surface.specs.Steps.{quaternionNorm, unitQuaternion, tangentOf, unitIf, frameOf};
 use crate::types::Frame;
 use lighting::Bump;
 
-fn length(q: [f32; 4]) -> f32
-    ensures { λ r. ⌜ r ≡ lengthOf q ⌝ }
+fn quaternion_norm(q: [f32; 4]) -> f32
+    ensures { λ r. ⌜ r ≡ quaternionNorm q ⌝ }
 {
     root::root(q[0] * q[0] + q[1] * q[1] + q[2] * q[2] + q[3] * q[3])
 }
@@ -18,9 +19,9 @@ fn length(q: [f32; 4]) -> f32
 fn unit_quaternion(q: [f32; 4]) -> [f32; 4]
     ensures { λ r. ⌜ r ≡ unitQuaternion q ⌝ }
 {
-    let k = length(q);
-    if k > 0.0 {
-        [q[0] / k, q[1] / k, q[2] / k, q[3] / k]
+    let norm = quaternion_norm(q);
+    if norm > 0.0 {
+        [q[0] / norm, q[1] / norm, q[2] / norm, q[3] / norm]
     } else {
         [0.0, 0.0, 0.0, 1.0]
     }

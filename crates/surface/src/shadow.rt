@@ -1,6 +1,6 @@
 // A draw's shadow: what its texel gives, and what it applies to.
 ghost use mathlib.Core.Path.{_≡_};
-ghost use Rattle.surface.specs.Shadow.{inverted as invertedOf, shadowTexel, primaryOf, secondaryOf, alphaOf};
+ghost use Rattle.surface.specs.Steps.{inverted as invertedOf, shadowTexel, primaryOf, secondaryOf, alphaOf};
 use lighting::OptionalShadow;
 
 fn inverted(invert: bool, t: [f32; 4]) -> [f32; 4]

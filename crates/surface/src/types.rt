@@ -11,20 +11,20 @@ pub struct Frame {
     pub norm_view: [f32; 3],
 }
 
-// The vector toward a light, and how far the light is away where something reads that: the two share one root.
-pub struct Way {
+// The ray from the fragment to a light: its unit vector, or a directional light's direction, and its norm where something reads that. The two share one root.
+pub struct Ray {
     pub vector: [f32; 3],
-    pub length: f32,
+    pub norm: f32,
 }
 
-// The light's unit vector, and the half vector between it and the view.
-pub struct Toward {
+// The vector toward a light, and the half vector between it and the view.
+pub struct Directions {
     pub light_vector: [f32; 3],
     pub half: [f32; 3],
 }
 
-// Of a lighting, the lookups and what their inputs need.
-pub struct Lookups {
+// The lookups of a lighting, and what their inputs need.
+pub struct LightingLookups {
     pub config: u32,
     pub needs_half: bool,
     pub distribution0: OptionalLookup,
@@ -53,7 +53,19 @@ pub struct Readings {
     pub fresnel: Reading,
 }
 
-// What the tables give a light, or what its lookups make of that: 1 where it reads none, but green and blue fall back to red.
+// What the entries give there: 1 where none is read.
+pub struct EntryValues {
+    pub distance: f32,
+    pub spot: f32,
+    pub distribution0: f32,
+    pub red: f32,
+    pub green: f32,
+    pub blue: f32,
+    pub distribution1: f32,
+    pub fresnel: f32,
+}
+
+// What the lookups make of that: each its scale's multiple, 1 where it is missing, but green and blue fall back to red.
 pub struct Values {
     pub distance: f32,
     pub spot: f32,
@@ -66,14 +78,14 @@ pub struct Values {
 }
 
 // What the sums take of a lighting: whether highlights are clamped, whether each sum is in the shadow
-// and the shadow itself, and whether fresnel sets each alpha.
+// and the shadow itself, and whether fresnel sets each alpha: its flag is set and there is a lookup.
 pub struct Settings {
     pub clamp_highlights: bool,
     pub shadow_primary: bool,
     pub shadow_secondary: bool,
     pub shadow: [f32; 4],
-    pub fresnel_primary: bool,
-    pub fresnel_secondary: bool,
+    pub fresnel_sets_primary: bool,
+    pub fresnel_sets_secondary: bool,
 }
 
 // Red, green, blue and alpha of the two colours.

@@ -82,7 +82,7 @@ fn call(
     b: u32,
 ) -> Written {
     if kind == WRITE {
-        return tables::register_write::write(file, entries, generation, a, b);
+        return tables::registers::write(file, entries, generation, a, b);
     }
     restore(entries, generation, a, b)
 }

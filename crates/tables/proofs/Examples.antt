@@ -4,13 +4,9 @@ use mathlib.Core.Path.{_≡_, refl}
 use mathlib.Core.List.{List, []}
 use lib.ListN.{getD, set, replicate}
 use lib.Ieee.{Float, nan, binary32, ofBits, ofFields, add, mul, sum, div, neg, ofInt, round, units, odd, span, climb, size, toBits}
-use Rattle.refusals.specs.Lengths.{fileRefusal, tablesRefusal, registerRefusal, savedRefusal}
-use Rattle.fields.specs.Upload.{uploadValue, uploadMagnitude, uploadStep, uploadValueBits, uploadStepBits}
-use Rattle.tables.specs.Upload.{isData, index, moved, stored, place, putEntry, put, sameEntry, changes}
-use Rattle.tables.specs.Generation.{last}
-use Rattle.tables.specs.Write.{Wrote, wrote, upload, writeIf, write}
-use Rattle.tables.specs.Restore.{restored, restoreIf, restore, saved, saveIf, save}
-use Rattle.tables.specs.Lookup.{interpolated, tableLookup}
+use Rattle.refusals.specs.Refusals.{fileRefusal, tablesRefusal, registerRefusal, savedRefusal}
+use Rattle.fields.specs.Fields.{uploadValue, uploadMagnitude, uploadStep, uploadValueBits, uploadStepBits}
+use Rattle.tables.specs.Tables.{isData, index, moved, stored, place, putEntry, put, sameEntry, changes, last, Wrote, wrote, upload, writeIf, write, restored, restoreIf, restore, saved, saveIf, save, interpolated, tableLookup}
 
 abbrev zeros : ℕ → List ℕ
 zeros n = replicate n 0

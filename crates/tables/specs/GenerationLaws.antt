@@ -4,7 +4,7 @@ use native.Mathlib.Omega.{arith}
 use mathlib.Core.Path.{_≡_}
 use mathlib.Core.Bool.{false}
 use borrow.Author.Tests.{ne-eqb}
-use Rattle.tables.specs.Generation.{last}
+use Rattle.tables.specs.Tables.{last}
 
 pub below-last : (g : ℕ) → g < 0xFFFFFFFFFFFFFFFF → last g ≡ false
 unfolding last

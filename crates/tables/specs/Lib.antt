@@ -1,11 +1,4 @@
-pub mod Upload
-pub mod Generation
-pub mod Write
-pub mod Restore
-pub mod Lookup
-pub mod Answers
-pub mod Words
-pub mod WordsLaws
+pub mod Tables
 pub mod GenerationLaws
 pub mod RefusalLaws
 pub mod UploadLaws

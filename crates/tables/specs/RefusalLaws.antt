@@ -7,9 +7,8 @@ use mathlib.Core.List.{List}
 use lib.ListN.{length}
 use lib.Dec.{ltb, leb, eqb, eqb·suc-zero}
 use borrow.Author.Tests.{leb-true, ltb-true, eqb-true}
-use Rattle.refusals.specs.Lengths.{fileRefusal, tablesRefusal, registerRefusal, savedRefusal, _else_}
-use Rattle.tables.specs.Write.{writeRefusal}
-use Rattle.tables.specs.Restore.{restoreRefusal}
+use Rattle.refusals.specs.Refusals.{fileRefusal, tablesRefusal, registerRefusal, savedRefusal, _else_}
+use Rattle.tables.specs.Tables.{writeRefusal, restoreRefusal}
 
 -- the first of two
 pub else-left : (a b : ℕ) → a else b ≡ 0 → a ≡ 0

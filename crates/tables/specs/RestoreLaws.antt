@@ -5,10 +5,9 @@ use mathlib.Core.List.{List}
 use mathlib.Core.Logic.{_⊎_, inl, inr}
 use mathlib.Core.Bool.{Bool, true, false, cond}
 use lib.ListN.{length}
-use Rattle.refusals.specs.Lengths.{tablesRefusal, savedRefusal}
-use Rattle.tables.specs.Generation.{last}
+use Rattle.refusals.specs.Refusals.{tablesRefusal, savedRefusal}
+use Rattle.tables.specs.Tables.{last, Restored, restored, restoreRefusal, restoreIf, restore, saved, saveRefusal, saveIf, save}
 use Rattle.tables.specs.RefusalLaws.{restore-lengths}
-use Rattle.tables.specs.Restore.{Restored, restored, restoreRefusal, restoreIf, restore, saved, saveRefusal, saveIf, save}
 
 -- past 2 and 5, below the last generation
 pub restore-data : (t : List ℕ) (g : ℕ) (s : List ℕ) → restoreRefusal (length t) s ≡ 0 → last g ≡ false → restore t g s ≡ restored 0 s (g + 1)

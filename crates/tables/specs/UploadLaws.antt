@@ -8,17 +8,11 @@ use lib.ListN.{length, getD, set, length-set}
 use lib.Seq.{set-getD, getD-set-same, getD-set-other}
 use lib.Dec.{eqb}
 use borrow.Author.Tests.{ltb-true, eqb-true, eq-eqb}
-use Rattle.fields.specs.Upload.{uploadValueBits, uploadStepBits}
-use Rattle.fields.specs.UploadLaws.{value-bits-lt, step-bits-lt}
-use Rattle.tables.specs.Words.{Words}
-use Rattle.tables.specs.WordsLaws.{words-set}
-use Rattle.tables.specs.Upload.{moved, stored, place, putEntry, put, sameEntry, changes}
+use Rattle.flags.specs.FlagsLaws.{both-true}
+use Rattle.fields.specs.Fields.{uploadValueBits, uploadStepBits}
+use Rattle.tables.specs.Tables.{moved, stored, place, putEntry, put, sameEntry, changes}
 
-both-true : (a b : Bool) → (a && b) ≡ true → (a ≡ true) × (b ≡ true)
-both-true true b e = (refl, e)
-both-true false b e = absurd (false≢true e)
-
--- 1C5 moved on: the bits above the entry stay, and a word stays a word
+-- 1C5 moved on: the bits above the entry stay
 pub moved-above : (i : ℕ) → moved i / 256 ≡ i / 256
 unfolding moved
 moved-above i = omega arith
@@ -26,10 +20,6 @@ moved-above i = omega arith
 pub moved-entry : (i : ℕ) → moved i % 256 ≡ (i % 256 + 1) % 256
 unfolding moved
 moved-entry i = omega arith
-
-pub moved-word : (i : ℕ) → i < 0x100000000 → moved i < 0x100000000
-unfolding moved
-moved-word i h = omega arith
 
 -- an entry that is stored has both its words within 12,288
 pub place-within : (i : ℕ) → stored i ≡ true → place i + 1 < 12288
@@ -91,9 +81,3 @@ putEntry-differs t i v l e q =
     let value : getD t (place i) 0 ≡ uploadValueBits v = ap (λ (s : List ℕ). getD s (place i) 0) (sym q) ∙ putEntry-value t i v within in
     let step : getD t (place i + 1) 0 ≡ uploadStepBits v = ap (λ (s : List ℕ). getD s (place i + 1) 0) (sym q) ∙ putEntry-step t i v within in
     false≢true (rw (eq-eqb _ _ value, eq-eqb _ _ step) at (h .1))
-
--- tables of words stay such
-pub words-putEntry : (t : List ℕ) (i v : ℕ) → Words t → Words (putEntry t i v)
-unfolding putEntry
-words-putEntry t i v w =
-    words-set (set t (place i) (uploadValueBits v)) (place i + 1) (uploadStepBits v) (step-bits-lt v) (words-set t (place i) (uploadValueBits v) (value-bits-lt v) w)

@@ -8,12 +8,10 @@ use lib.ListN.{length, set, take, drop}
 use lib.Seq.{getD-take, take-set-lt, drop-set-lt, length-take-le}
 use lib.Dec.{lit<}
 use borrow.Author.Tests.{le-leb}
-use Rattle.refusals.specs.Lengths.{fileRefusal, tablesRefusal, registerRefusal, _else_}
-use Rattle.tables.specs.Upload.{isData, index, moved, movedOn, putEntry, put, changes}
+use Rattle.refusals.specs.Refusals.{fileRefusal, tablesRefusal, registerRefusal, _else_}
+use Rattle.tables.specs.Tables.{isData, index, moved, movedOn, putEntry, put, changes, last, raised, Wrote, wrote, writeRefusal, upload, writeIf, write}
 use Rattle.tables.specs.UploadLaws.{put-same, put-changed, putEntry-differs}
-use Rattle.tables.specs.Generation.{last, raised}
 use Rattle.tables.specs.RefusalLaws.{write-lengths}
-use Rattle.tables.specs.Write.{Wrote, wrote, writeRefusal, upload, writeIf, write}
 
 -- the lengths and the register that a write past 1, 2 and 3 has
 pub record Accepted (f t : List ℕ) (r : ℕ) : Type 0 where

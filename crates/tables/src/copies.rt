@@ -1,8 +1,7 @@
 // The whole tables copied: restore and save.
 ghost use mathlib.Core.Path.{_≡_};
 ghost use lib.ListN.{length};
-ghost use Rattle.tables.specs.Restore.{restore as restoreOf, save as saveOf};
-ghost use Rattle.tables.specs.Answers.{restoredOf, savedOf};
+ghost use Rattle.tables.specs.Tables.{restore as restoreOf, save as saveOf, restoredOf, savedOf};
 use crate::LAST_GENERATION;
 use crate::Written;
 use refusals::Outcome;

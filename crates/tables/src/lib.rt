@@ -1,8 +1,8 @@
-// What a write or a restore of the tables answers. The register write is `register_write`, the upload `upload`, restore and save `copies`, lookup `lookup`.
+// The tables and what their calls answer: the register write, with the upload of table data, is in `registers`, restore and save in `copies`, what an
+// entry gives in `entries`.
 pub mod copies;
-pub mod lookup;
-pub mod register_write;
-mod upload;
+pub mod entries;
+pub mod registers;
 
 use refusals::Refusal;
 

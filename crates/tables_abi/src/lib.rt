@@ -1,9 +1,7 @@
 // Write, restore, save and lookup of the tables under plain names, for the host's comparisons with the Rust module: a library for tests alone.
 // Each call returns document 01's number, 0 where it is done, and keeps the generation behind a reference.
 ghost use mathlib.Core.Path.{_≡_};
-ghost use Rattle.tables.specs.Write.{wrote, write as writeOf};
-ghost use Rattle.tables.specs.Restore.{restored, restore as restoreOf, saved as savedAs, save as saveOf};
-ghost use Rattle.tables.specs.Lookup.{tableLookup};
+ghost use Rattle.tables.specs.Tables.{wrote, write as writeOf, restored, restore as restoreOf, saved as savedAs, save as saveOf, tableLookup};
 use tables::Written;
 
 #[no_mangle]
@@ -16,7 +14,7 @@ pub extern "C" fn tables_write(
 ) -> u32
     ensures { λ r. ⌜ wrote r (now (file .exit)) (now (entries .exit)) (now (generation .exit)) ≡ writeOf (now (file .entry)) (now (entries .entry)) (now (generation .entry)) register value ⌝ }
 {
-    match tables::register_write::write(file, entries, *generation, register, value) {
+    match tables::registers::write(file, entries, *generation, register, value) {
         Written::Done(next) => {
             *generation = next;
             0
@@ -49,5 +47,5 @@ pub extern "C" fn tables_save(entries: &[u32], output: &mut [u32]) -> u32
 pub extern "C" fn tables_lookup(entries: &[u32], table: u32, entry: u8, delta: f32) -> f32
     ensures { λ r. ⌜ r ≡ tableLookup (now (entries .entry)) table entry delta ⌝ }
 {
-    tables::lookup::lookup(entries, table, entry, delta)
+    tables::entries::lookup(entries, table, entry, delta)
 }

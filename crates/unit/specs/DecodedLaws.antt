@@ -9,62 +9,36 @@ use lib.Dec.{T}
 use lib.ListN.{length, replicate, length-replicate}
 use lib.Ieee.{Float, binary32, fits, ofBits, toBits}
 use borrow.Author.Tests.{lt-ltb, le-leb}
-use Rattle.binary32.specs.Words.{wordOf}
-use Rattle.vectors.specs.Vectors.{Vector}
+use Rattle.binary32.specs.Binary32.{wordOf}
 use Rattle.lighting.specs.declared.Lookup.{Lookup}
 use Rattle.lighting.specs.declared.OptionalLookup.{OptionalLookup}
 use Rattle.lighting.specs.declared.OptionalLookup.the-variants.{Missing, Present}
-use Rattle.lighting.specs.declared.Distance.{Distance}
-use Rattle.lighting.specs.declared.Distance.the-variants.{Without, Scaled}
 use Rattle.lighting.specs.declared.Bump.{Bump}
 use Rattle.lighting.specs.declared.Bump.the-variants.{Flat, Normal, Tangent}
 use Rattle.lighting.specs.declared.OptionalShadow.{OptionalShadow}
 use Rattle.lighting.specs.declared.OptionalShadow.the-variants.{Unshadowed, Shadowed}
-use Rattle.lighting.specs.declared.Light.{Light}
 use Rattle.lighting.specs.declared.Lighting.{Lighting}
 use Rattle.lighting.specs.declared.OptionalLighting.{OptionalLighting}
-use Rattle.decoding.specs.LightsClaims.{LightFits, DistanceFits}
-use Rattle.decoding.specs.Lighting.{lightingOf}
-use Rattle.lighting.specs.Blank.{off}
-use Rattle.decoding.specs.Decode.{lightingOn, decoded}
+use Rattle.lighting.specs.Claims.{LookupFits, LightingFits}
 use Rattle.decoding.specs.Claims.{IsScale, LookupLimits, OptionalLookupLimits, BumpLimits, ShadowLimits, Limits}
-use Rattle.decoding.specs.LimitLaws.{scale-each, scale-fits, lighting-limits}
-use Rattle.block.specs.Words.{noLight, lightAt, packed}
-use Rattle.block.specs.Formed.{words, every, zeros, allZero, scaleFormed, wellFormed}
-use Rattle.block.specs.Reading.{blockReading}
-use Rattle.block.specs.Answers.{bumpUnit, shadowUnit, numbersFit, inRange, accepted, packedReading}
-use Rattle.block.specs.Acceptable.{lookupAcceptable, optionalLookupAcceptable, acceptable}
-use Rattle.block.specs.Claims.{Vector as BlockVector, DistanceHeld, LookupHeld, LightHeld, Held, BlankBeyond}
+use Rattle.decoding.specs.Read.{read}
+use Rattle.decoding.specs.DecodeLaws.{read-either}
+use Rattle.lighting.specs.Lighting.{noLight, lightAt, bumpUnit, shadowUnit, numbersFit, inRange}
+use Rattle.decoding.specs.LimitLaws.{scale-each, scale-fits}
+use Rattle.block.specs.Block.{packed, words, allZero, scaleFormed, wellFormed, blockReading, accepted, packedReading}
+use Rattle.block.specs.Steps.{lookupAcceptable, optionalLookupAcceptable, acceptable}
+use Rattle.block.specs.Claims.{BlankBeyond}
 use Rattle.block.specs.TestLaws.{_also_, both-second, or-second, every-of}
 use Rattle.block.specs.ListLaws.{length-packed}
 use Rattle.block.specs.PackedLaws.{packed-reads}
-use Rattle.unit.specs.HandOver.{packable}
+use Rattle.unit.specs.Unit.{packable}
 use Rattle.block.specs.AcceptedLaws.{accepted-is}
-
-vector-held : (v : List Float) → Vector v → BlockVector v
-vector-held v h = record { long = h .long; first = h .fit 0; second = h .fit 1; third = h .fit 2 }
-
-distance-held : (d : Distance) → DistanceFits d → DistanceHeld d
-distance-held Without h = tt
-distance-held (Scaled b s) h = h
-
-light-held : (l : Light) → LightFits l → LightHeld l
-light-held l h =
-    record {
-      specular0 = vector-held (l .specular0) (h .specular0);
-      specular1 = vector-held (l .specular1) (h .specular1);
-      diffuse = vector-held (l .diffuse) (h .diffuse);
-      ambient = vector-held (l .ambient) (h .ambient);
-      position = vector-held (l .position) (h .position);
-      direction = vector-held (l .direction) (h .direction);
-      spot = vector-held (l .spot) (h .spot);
-      distance = distance-held (l .distance) (h .distance);
-    }
+use Rattle.block.specs.OffLaws.{zero-block}
 
 scale-held : (x : Float) → IsScale x → T (fits binary32 x)
 scale-held x h = rw (h .is) (scale-fits (h .code))
 
-lookup-held : (o : OptionalLookup) → OptionalLookupLimits o → LookupHeld o
+lookup-held : (o : OptionalLookup) → OptionalLookupLimits o → LookupFits o
 lookup-held Missing h = tt
 lookup-held (Present l) h = scale-held (l .scale) (h .scale)
 
@@ -98,12 +72,12 @@ half-view true b h = h refl
 half-view false b h = refl
 
 module _ (l : Lighting) (h : Limits l) where
-  limits-held : Held l
+  limits-held : LightingFits l
   unfolding lightAt
   limits-held =
       record {
-        lights = λ s p. light-held _ (h .lights s noLight p .fits);
-        ambient = vector-held (l .«global_ambient») (h .ambient);
+        lights = λ s p. h .lights s noLight p .fits;
+        ambient = h .ambient;
         distribution0 = lookup-held (l .distribution0) (h .distribution0);
         distribution1 = lookup-held (l .distribution1) (h .distribution1);
         fresnel = lookup-held (l .fresnel) (h .fresnel);
@@ -141,17 +115,9 @@ module _ (l : Lighting) (h : Limits l) where
       also half-view (l .«needs_half») (l .«needs_view») (h .half-view)
       also limits-range)
 
-pub decoded-packable : (f : List ℕ) → packable (decoded f) ≡ true
-unfolding decoded packable
-decoded-packable f = go (lightingOn f)
-  where
-    go : (b : Bool) → packable (cond b (record { on = true; lighting = lightingOf f }) off) ≡ true
-    go true = limits-accepted (lightingOf f) (lighting-limits f)
-    go false = refl
-
-zero-block : allZero (words (replicate 328 0)) ≡ true
-unfolding allZero zeros every
-zero-block = refl
+pub decoded-packable : (f : List ℕ) → packable (read f) ≡ true
+unfolding packable
+decoded-packable f = read-either (λ (d : OptionalLighting). packable d ≡ true) f limits-accepted refl
 
 -- the block of a lighting that is packed, or off, is off or well formed
 pub packed-formed : (d : OptionalLighting) → packable d ≡ true → (allZero (words (packedReading d)) || wellFormed (words (packedReading d))) ≡ true
@@ -167,15 +133,12 @@ packed-formed d h = go (d .on) h
     go false e = rw zero-block refl
 
 -- the block of a file's lighting reads as that lighting
-pub decoded-reads : (f : List ℕ) → blockReading (words (packedReading (decoded f))) ≡ decoded f
-unfolding decoded packedReading blockReading
-decoded-reads f = go (lightingOn f)
-  where
-    go : (b : Bool) → blockReading (words (packedReading (cond b (record { on = true; lighting = lightingOf f }) off))) ≡ cond b (record { on = true; lighting = lightingOf f }) off
-    go true =
-        let h = lighting-limits f in
-        packed-reads (lightingOf f) (h .eight) (limits-held (lightingOf f) h) (limits-range (lightingOf f) h) (limits-blank (lightingOf f) h)
-    go false = rw zero-block refl
+pub decoded-reads : (f : List ℕ) → blockReading (words (packedReading (read f))) ≡ read f
+unfolding packedReading blockReading
+decoded-reads f =
+    read-either (λ (d : OptionalLighting). blockReading (words (packedReading d)) ≡ d) f
+    (λ l h. packed-reads l (h .eight) (limits-held l h) (limits-range l h) (limits-blank l h))
+    (rw zero-block refl)
 
 pub packed-length : (d : OptionalLighting) → length (packedReading d) ≡ 328
 unfolding packedReading

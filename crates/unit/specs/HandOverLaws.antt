@@ -5,12 +5,11 @@ use mathlib.Core.Path.{_≡_, refl}
 use mathlib.Core.Bool.{_&&_}
 use lib.Dec.{leb, eqb}
 use borrow.Author.Tests.{leb-true, eqb-true}
-use Rattle.refusals.specs.Numbers.{numberOf}
+use Rattle.refusals.specs.Refusals.{numberOf, fileRefusal, tablesRefusal, blockRefusal, _else_}
 use Rattle.refusals.specs.declared.Refusal.{Refusal}
 use Rattle.refusals.specs.declared.Refusal.the-variants.{ShortFile, WrongTables, HighRegister, LastGeneration, WrongSaved, WrongBlock, NotWellFormed, BadCapture, WrongFragment}
-use Rattle.refusals.specs.Lengths.{fileRefusal, tablesRefusal, blockRefusal, _else_}
 use Rattle.tables.specs.RefusalLaws.{else-left, else-right, else-test, passed, passed-test}
-use Rattle.unit.specs.HandOver.{handOverRefusal}
+use Rattle.unit.specs.Unit.{handOverRefusal}
 
 pub refusal-not-zero : (k : Refusal) → numberOf k ≡ 0 → ⊥
 refusal-not-zero ShortFile e = omega arith
@@ -23,12 +22,17 @@ refusal-not-zero NotWellFormed e = omega arith
 refusal-not-zero BadCapture e = omega arith
 refusal-not-zero WrongFragment e = omega arith
 
+-- a file past its refusal
+pub long-file : (n : ℕ) → fileRefusal n ≡ 0 → 474 ≤ n
+unfolding fileRefusal
+long-file n e = leb-true 474 n (passed (leb 474 n) 0 e)
+
 pub hand-over-lengths : (f t ct b : ℕ) → handOverRefusal f t ct b ≡ 0 → (474 ≤ f) × (t ≡ 12288) × (ct ≡ 12288) × (b ≡ 328)
 unfolding fileRefusal tablesRefusal blockRefusal
 hand-over-lengths f t ct b e =
     let e₁ : tablesRefusal t else tablesRefusal ct else blockRefusal b ≡ 0 = else-right (fileRefusal f) (tablesRefusal t else tablesRefusal ct else blockRefusal b) e in
     let e₂ : tablesRefusal ct else blockRefusal b ≡ 0 = else-right (tablesRefusal t) (tablesRefusal ct else blockRefusal b) e₁ in (
-      leb-true 474 f (passed (leb 474 f) 0 (else-left (fileRefusal f) (tablesRefusal t else tablesRefusal ct else blockRefusal b) e)),
+      long-file f (else-left (fileRefusal f) (tablesRefusal t else tablesRefusal ct else blockRefusal b) e),
       eqb-true t 12288 (passed (eqb t 12288) 1 (else-left (tablesRefusal t) (tablesRefusal ct else blockRefusal b) e₁)),
       eqb-true ct 12288 (passed (eqb ct 12288) 1 (else-left (tablesRefusal ct) (blockRefusal b) e₂)),
       eqb-true b 328 (passed (eqb b 328) 5 (else-right (tablesRefusal ct) (blockRefusal b) e₂)),

@@ -1,9 +1,7 @@
-pub mod Fresh
-pub mod CachedRead
-pub mod HandOver
-pub mod DecodedLaws
-pub mod HandOverLaws
-pub mod Taking
+pub mod Unit
 pub mod CacheWords
 pub mod Meaning
+pub mod Steps
+pub mod HandOverLaws
+pub mod DecodedLaws
 pub mod MeaningLaws

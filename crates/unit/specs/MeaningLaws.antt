@@ -7,34 +7,30 @@ use mathlib.Core.List.{List}
 use mathlib.Core.Bool.{Bool, true, false, cond, _||_}
 use lib.ListN.{length, length-append, length-take, length-drop}
 use lib.Seq.{take-at, drop-at}
-use lib.Dec.{leb, eqb}
-use borrow.Author.Tests.{leb-true, le-leb, ne-eqb}
-use Rattle.refusals.specs.Lengths.{fileRefusal, _else_}
-use Rattle.tables.specs.RefusalLaws.{passed, else-left}
-use Rattle.lighting.specs.Blank.{blankLighting}
-use Rattle.decoding.specs.RegistersRead.{keptWords}
-use Rattle.decoding.specs.Decode.{decoded}
-use Rattle.block.specs.Formed.{words, allZero, zeros, every, wellFormed}
-use Rattle.block.specs.Reading.{on, blockReading}
-use Rattle.block.specs.Answers.{bumpUnit, shadowUnit, inRange, accepted, packedReading}
+use lib.Dec.{eqb}
+use borrow.Author.Tests.{ne-eqb}
+use Rattle.refusals.specs.Refusals.{fileRefusal, _else_}
+use Rattle.tables.specs.RefusalLaws.{else-left}
+use Rattle.lighting.specs.Lighting.{blankLighting, bumpUnit, shadowUnit, inRange, on}
+use Rattle.lighting.specs.Forms.{every}
+use Rattle.decoding.specs.Read.{read, registersRead, registersReadCount}
+use Rattle.block.specs.Block.{words, allZero, zeros, wellFormed, blockReading, accepted, packedReading}
 use Rattle.block.specs.Claims.{WordsHeld}
 use Rattle.block.specs.ReadLaws.{read-packs, read-accepted}
 use Rattle.unit.specs.declared.Cache.{Cache}
-use Rattle.unit.specs.Fresh.{freshCache}
-use Rattle.unit.specs.CachedRead.{cached, current, readAnew, refreshed, cachedReadIf}
-use Rattle.unit.specs.HandOver.{handed, handOverRefusal, packable, taken, handOverRead, handOverIf, handOver}
-use Rattle.unit.specs.HandOverLaws.{hand-over-lengths}
+use Rattle.unit.specs.Unit.{freshCache, cached, current, readAnew, refreshed, cachedReadIf, handed, handOverRefusal, packable, taken, handOverRead, handOverIf, handOver}
+use Rattle.unit.specs.HandOverLaws.{long-file, hand-over-lengths}
 use Rattle.unit.specs.DecodedLaws.{decoded-packable, decoded-reads, packed-formed, packed-length}
-use Rattle.unit.specs.CacheWords.{flagOf, keptOf, blockOf, emptyWords, cacheRefusal, formed, currentWords, anewWords, refreshedWords, cachedWordsRead, cachedWordsIf, cachedReadWords, takenWords, handOverWordsRead, handOverWordsIf, handOverWords}
+use Rattle.unit.specs.CacheWords.{blockPlace, cacheCount, cacheFlag, cacheKept, cacheBlock, emptyWords, cacheRefusal, formed, currentWords, anewWords, refreshedWords, cachedWordsIf, cachedReadWords, takenWords, handOverWordsRead, handOverWordsIf, handOverWords}
 use Rattle.unit.specs.Meaning.{readingOf, cacheOf, cachedAs, handedAs, Lendable, HandsOverAsMeant, ReadsAsMeant}
 
 -- a block that, if it is off or well formed, is packed from its reading
-abbrev pub PacksBack : List ℕ → Type 0
+abbrev PacksBack : List ℕ → Type 0
 PacksBack b =
     formed b ≡ true → (packable (blockReading (words b)) ≡ true) × (packedReading (blockReading (words b)) ≡ b)
 
 -- words of 32 bits are
-pub lent-packs : (b : List ℕ) → length b ≡ 328 → WordsHeld (words b) → PacksBack b
+lent-packs : (b : List ℕ) → length b ≡ 328 → WordsHeld (words b) → PacksBack b
 unfolding formed packable blockReading
 lent-packs b n held h = (go (allZero (words b)) refl h, read-packs b n held h)
   where
@@ -43,14 +39,14 @@ lent-packs b n held h = (go (allZero (words b)) refl h, read-packs b n held h)
     go false e k = rw (e, read-accepted b n held k) refl
 
 -- and so is the block of a file's lighting
-decoded-formed : (f : List ℕ) → formed (packedReading (decoded f)) ≡ true
+decoded-formed : (f : List ℕ) → formed (packedReading (read f)) ≡ true
 unfolding formed
-decoded-formed f = packed-formed (decoded f) (decoded-packable f)
+decoded-formed f = packed-formed (read f) (decoded-packable f)
 
-decoded-packs : (f : List ℕ) → PacksBack (packedReading (decoded f))
+decoded-packs : (f : List ℕ) → PacksBack (packedReading (read f))
 decoded-packs f h = rw (decoded-reads f) (decoded-packable f, refl)
 
-decoded-reading : (f : List ℕ) → readingOf (packedReading (decoded f)) ≡ decoded f
+decoded-reading : (f : List ℕ) → readingOf (packedReading (read f)) ≡ read f
 unfolding readingOf
 decoded-reading f = rw (decoded-formed f) (decoded-reads f)
 
@@ -75,25 +71,25 @@ module _ (b : List ℕ) (back : PacksBack b) where
 
 -- what a read anew keeps
 module _ (f : List ℕ) (long : 474 ≤ length f) where
-  kept-long : length (keptWords f) ≡ 139
-  unfolding keptWords
+  kept-long : length (registersRead f) ≡ registersReadCount
+  unfolding registersRead
   kept-long = simp (length-append, length-take, length-drop) (omega arith)
 
-  anew-kept : keptOf (anewWords f) ≡ keptWords f
+  anew-kept : cacheKept (anewWords f) ≡ registersRead f
   unfolding anewWords
-  anew-kept = take-at (keptWords f) (packedReading (decoded f)) 139 kept-long
+  anew-kept = take-at (registersRead f) (packedReading (read f)) registersReadCount kept-long
 
-  anew-block : blockOf (anewWords f) ≡ packedReading (decoded f)
+  anew-block : cacheBlock (anewWords f) ≡ packedReading (read f)
   unfolding anewWords
-  anew-block = drop-at (keptWords f) (packedReading (decoded f)) 139 kept-long
+  anew-block = drop-at (registersRead f) (packedReading (read f)) registersReadCount kept-long
 
-  anew-long : length (anewWords f) ≡ 468
+  anew-long : length (anewWords f) ≡ cacheCount
   unfolding anewWords
   anew-long =
-      ap (λ (n : ℕ). suc n) (length-append (keptWords f) (packedReading (decoded f)))
-      ∙ rw (kept-long, packed-length (decoded f)) refl
+      ap (λ (n : ℕ). suc n) (length-append (registersRead f) (packedReading (read f)))
+      ∙ rw (kept-long, packed-length (read f)) refl
 
-  anew-flag : flagOf (anewWords f) ≡ 1
+  anew-flag : cacheFlag (anewWords f) ≡ 1
   unfolding anewWords
   anew-flag = refl
 
@@ -103,18 +99,15 @@ module _ (f : List ℕ) (long : 474 ≤ length f) where
 
 -- what the calls ask of a cache, and keep
 pub record Kept (c : List ℕ) : Type 0 where
-  pub long : length c ≡ 468
-  pub back : PacksBack (blockOf c)
+  pub long : length c ≡ cacheCount
+  pub back : PacksBack (cacheBlock c)
 
-pub lendable-kept : (c : List ℕ) → Lendable c → Kept c
+lendable-kept : (c : List ℕ) → Lendable c → Kept c
 lendable-kept c l =
-    record { long = l .long; back = lent-packs (blockOf c) (length-drop 140 c ∙ ap (λ (n : ℕ). n - 140) (l .long)) (l .held) }
+    record { long = l .long; back = lent-packs (cacheBlock c) (length-drop blockPlace c ∙ ap (λ (n : ℕ). n - blockPlace) (l .long)) (l .held) }
 
 pub anew-keeps : (f : List ℕ) → 474 ≤ length f → Kept (anewWords f)
 anew-keeps f long = record { long = anew-long f long; back = rw (anew-block f long) (decoded-packs f) }
-
-anew-formed : (f : List ℕ) → 474 ≤ length f → formed (blockOf (anewWords f)) ≡ true
-anew-formed f long = rw (anew-block f long) (decoded-formed f)
 
 -- a read that is not refused
 module _ (f : List ℕ) (long : 474 ≤ length f) (c : List ℕ) where
@@ -137,23 +130,23 @@ module _ (f : List ℕ) (long : 474 ≤ length f) (c : List ℕ) where
 
 -- past the refusals by length, n being what the read leaves
 module _ (n : List ℕ) (k : Kept n) (t : List ℕ) (g : ℕ) (c b ct : List ℕ) (cg : ℕ) where
-  takes-meant : formed (blockOf n) ≡ true → handedAs cacheOf (takenWords n t g ct cg) ≡ taken (cacheOf n) t g ct cg
+  takes-meant : formed (cacheBlock n) ≡ true → handedAs cacheOf (takenWords n t g ct cg) ≡ taken (cacheOf n) t g ct cg
   unfolding takenWords taken cacheOf
-  takes-meant e = rw (packed-meant (blockOf n) (k .back) e) (go (eqb g cg))
+  takes-meant e = rw (packed-meant (cacheBlock n) (k .back) e) (go (eqb g cg))
     where
-      go : (x : Bool) → handedAs cacheOf (cond x (handed 0 n (blockOf n) ct cg) (handed 0 n (blockOf n) t g)) ≡ cond x (handed 0 (cacheOf n) (blockOf n) ct cg) (handed 0 (cacheOf n) (blockOf n) t g)
+      go : (x : Bool) → handedAs cacheOf (cond x (handed 0 n (cacheBlock n) ct cg) (handed 0 n (cacheBlock n) t g)) ≡ cond x (handed 0 (cacheOf n) (cacheBlock n) ct cg) (handed 0 (cacheOf n) (cacheBlock n) t g)
       go true = refl
       go false = refl
 
   read-meant : handedAs cacheOf (handOverWordsRead n t g c b ct cg) ≡ handOverRead (cacheOf n) t g (cacheOf c) b ct cg
   unfolding handOverWordsRead handOverRead cacheOf
-  read-meant = rw (packable-meant (blockOf n) (k .back)) (go (formed (blockOf n)) refl)
+  read-meant = rw (packable-meant (cacheBlock n) (k .back)) (go (formed (cacheBlock n)) refl)
     where
-      go : (x : Bool) → formed (blockOf n) ≡ x → handedAs cacheOf (cond x (takenWords n t g ct cg) (handed 7 c b ct cg)) ≡ cond x (taken (cacheOf n) t g ct cg) (handed 7 (cacheOf c) b ct cg)
+      go : (x : Bool) → formed (cacheBlock n) ≡ x → handedAs cacheOf (cond x (takenWords n t g ct cg) (handed 7 c b ct cg)) ≡ cond x (taken (cacheOf n) t g ct cg) (handed 7 (cacheOf c) b ct cg)
       go true e = takes-meant e
       go false e = refl
 
-not-refused : (c : List ℕ) → length c ≡ 468 → cacheRefusal (length c) ≡ 0
+not-refused : (c : List ℕ) → length c ≡ cacheCount → cacheRefusal (length c) ≡ 0
 unfolding cacheRefusal
 not-refused c e = rw e refl
 
@@ -177,7 +170,7 @@ module _ (f t : List ℕ) (g : ℕ) (c b ct : List ℕ) (cg : ℕ) where
   unfolding handOverWordsIf handOverWordsRead takenWords refusal
   hand-over-leaves P p q = go (refusal else cacheRefusal (length c)) refl
     where
-      copied : (n : List ℕ) → P n → (x y : Bool) → P (cond x (cond y (handed 0 n (blockOf n) ct cg) (handed 0 n (blockOf n) t g)) (handed 7 c b ct cg) .cache)
+      copied : (n : List ℕ) → P n → (x y : Bool) → P (cond x (cond y (handed 0 n (cacheBlock n) ct cg) (handed 0 n (cacheBlock n) t g)) (handed 7 c b ct cg) .cache)
       copied n h true true = h
       copied n h true false = h
       copied n h false y = p
@@ -185,19 +178,14 @@ module _ (f t : List ℕ) (g : ℕ) (c b ct : List ℕ) (cg : ℕ) where
       go : (r : ℕ) → refusal else cacheRefusal (length c) ≡ r → P (handOverWordsIf r f t g c b ct cg .cache)
       go zero e =
           let long : 474 ≤ length f = hand-over-lengths (length f) (length t) (length ct) (length b) (else-left refusal _ e) .0 in
-          copied (refreshedWords f c) (refreshed-leaves f long c P p (q long)) (formed (blockOf (refreshedWords f c))) (eqb g cg)
+          copied (refreshedWords f c) (refreshed-leaves f long c P p (q long)) (formed (cacheBlock (refreshedWords f c))) (eqb g cg)
       go (suc r) e = p
 
 pub hands-over-as-meant : HandsOverAsMeant
 hands-over-as-meant f t g c b ct cg l = hand-over-means f t g c b ct cg (lendable-kept c l)
 
--- a file past its refusal
-long-file : (n : ℕ) → fileRefusal n ≡ 0 → 474 ≤ n
-unfolding fileRefusal
-long-file n e = leb-true 474 n (passed (leb 474 n) 0 e)
-
 pub reads-as-meant : ReadsAsMeant
-unfolding cachedWordsIf cachedWordsRead cachedReadIf
+unfolding cachedWordsIf cachedReadIf
 reads-as-meant f c n = rw (not-refused c n) (go (fileRefusal (length f)) refl)
   where
     go : (q : ℕ) → fileRefusal (length f) ≡ q → cachedAs cacheOf (cachedWordsIf (q else 0) f c) ≡ cachedReadIf q f (cacheOf c)
@@ -207,7 +195,7 @@ reads-as-meant f c n = rw (not-refused c n) (go (fileRefusal (length f)) refl)
     go (suc q) e = refl
 
 pub cached-read-leaves : (f c : List ℕ) (P : List ℕ → Type 0) → P c → (474 ≤ length f → P (anewWords f)) → P (cachedReadWords f c .cache)
-unfolding cachedWordsIf cachedWordsRead
+unfolding cachedWordsIf
 cached-read-leaves f c P p q = go (fileRefusal (length f) else cacheRefusal (length c)) refl
   where
     go : (r : ℕ) → fileRefusal (length f) else cacheRefusal (length c) ≡ r → P (cachedWordsIf r f c .cache)
@@ -217,10 +205,10 @@ cached-read-leaves f c P p q = go (fileRefusal (length f) else cacheRefusal (len
     go (suc r) e = p
 
 -- a cache of another length, past the refusals before it: 101, and nothing changes
-module _ (c : List ℕ) (other : length c ≡ 468 → ⊥) where
+module _ (c : List ℕ) (other : length c ≡ cacheCount → ⊥) where
   other-refused : cacheRefusal (length c) ≡ 101
   unfolding cacheRefusal
-  other-refused = rw (ne-eqb (length c) 468 other) refl
+  other-refused = rw (ne-eqb (length c) cacheCount other) refl
 
   pub other-read-refused : (f : List ℕ) → cachedReadWords f c ≡ cached (fileRefusal (length f) else 101) c
   unfolding cachedWordsIf

@@ -7,8 +7,8 @@ use decoding::registers_read::current;
 use refusals::Outcome;
 use refusals::Refusal;
 ghost use mathlib.Core.Path.{_≡_};
-ghost use Rattle.refusals.specs.Numbers.{outcomeNumber};
-ghost use Rattle.unit.specs.HandOver.{handOverRefusal, handOver, handedOf};
+ghost use Rattle.refusals.specs.Refusals.{outcomeNumber};
+ghost use Rattle.unit.specs.Unit.{handOverRefusal, handOver, handedOf};
 
 // 1, 2 and 6, by the number of words of each slice.
 fn length_refusal(file: usize, tables: usize, copied: usize, block: usize) -> Outcome

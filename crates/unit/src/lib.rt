@@ -1,19 +1,17 @@
-// A unit's cache, fresh or read anew, and what a cached read and a hand-over answer.
-mod cache_words;
+// A unit's cache, fresh or read anew, and what a cached read and a hand-over answer. `reading` is the cached read, `taking` what a copy takes, `handing_over` the hand-over.
 pub mod handing_over;
-mod reading;
+pub mod reading;
 mod taking;
 
 use decoding::decode;
-use decoding::registers_read::kept_words;
+use decoding::registers_read::registers_read;
 use lighting::OptionalLighting;
 use lighting::blank_lighting;
 use refusals::Outcome;
 ghost use mathlib.Core.Path.{_≡_};
 ghost use Prim.Native.Nat.{_≤_};
 ghost use lib.ListN.{length};
-ghost use Rattle.unit.specs.Fresh.{freshCache};
-ghost use Rattle.unit.specs.CachedRead.{readAnew};
+ghost use Rattle.unit.specs.Unit.{freshCache, readAnew};
 
 // What the last read decoded, and the registers that it came from, which draws mostly keep: comparing those costs less than decoding
 // again. While it isn't filled the rest counts for nothing.
@@ -52,14 +50,14 @@ pub fn fresh_cache() -> Cache
     }
 }
 
-// The words that decoding takes, and their lighting.
+// The registers that decoding takes, and their lighting.
 pub(crate) fn read_anew(file: &[u32]) -> Cache
     requires { ⌜ 474 ≤ length (now file) ⌝ }
     ensures { λ r. ⌜ r ≡ readAnew (now (file .entry)) ⌝ }
 {
     Cache {
         filled: true,
-        kept: kept_words(file),
+        kept: registers_read(file),
         decoded: decode(file),
     }
 }

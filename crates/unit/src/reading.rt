@@ -6,10 +6,10 @@ use decoding::registers_read::current;
 use refusals::Outcome;
 use refusals::Refusal;
 ghost use mathlib.Core.Path.{_≡_};
-ghost use Rattle.unit.specs.CachedRead.{cachedRead, cachedOf};
+ghost use Rattle.unit.specs.Unit.{cachedRead, cachedOf};
 
 // The lighting set up in the registers, decoded again only where the words that it comes from are others than the kept ones.
-fn cached_read(file: &[u32], cache: Cache) -> CachedRead
+pub fn cached_read(file: &[u32], cache: Cache) -> CachedRead
     ensures { λ r. ⌜ cachedOf r ≡ cachedRead (now (file .entry)) cache ⌝ }
 {
     if file.len() < 474 {

@@ -5,9 +5,9 @@ use refusals::Outcome;
 use tables::copies::save;
 ghost use mathlib.Core.Path.{_≡_};
 ghost use lib.ListN.{length, replicate};
-ghost use Rattle.refusals.specs.Numbers.{outcomeNumber};
-ghost use Rattle.block.specs.Answers.{packing};
-ghost use Rattle.unit.specs.Taking.{packsReading, took, takes};
+ghost use Rattle.refusals.specs.Refusals.{outcomeNumber};
+ghost use Rattle.block.specs.Block.{packing};
+ghost use Rattle.unit.specs.Steps.{packsReading, took, takes};
 
 fn clear(words: &mut [u32])
     ensures { λ _. ⌜ now (words .exit) ≡ replicate (length (now (words .entry))) 0 ⌝ }

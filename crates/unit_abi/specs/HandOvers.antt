@@ -1,7 +1,7 @@
--- Hand-overs of two register files in turn. Definitions only.
+-- For tests alone: hand-overs of two register files in turn. Definitions only.
 use Prim.Native.Nat.{ℕ, zero, suc}
 use mathlib.Core.List.{List}
-use Rattle.unit.specs.HandOver.{Handed, handOver}
+use Rattle.unit.specs.Unit.{Handed, handOver}
 use Rattle.unit.specs.declared.Cache.{Cache}
 
 -- a hand-over from what the last one left

@@ -1,8 +1,7 @@
 // Hand-overs under a plain name, for the host's comparison with the Rust module and its benchmark: a library for tests alone. A cache can't
 // cross the C boundary, so one call makes many hand-overs with a cache of its own.
 ghost use mathlib.Core.Path.{_≡_};
-ghost use Rattle.unit.specs.Fresh.{freshCache};
-ghost use Rattle.unit.specs.HandOver.{handed};
+ghost use Rattle.unit.specs.Unit.{freshCache, handed};
 ghost use Rattle.unit_abi.specs.HandOvers.{copied as copiedAs, copyOf, handOvers};
 use refusals::Outcome;
 use unit::HandedOver;

@@ -1,2 +1,4 @@
 pub mod Vectors
+pub mod Claims
 pub mod VectorsLaws
+pub mod Steps

@@ -1,22 +1,17 @@
--- Vectors of three floats, each the list of its components, and a quaternion's turn of one. Each operation is rounded once, and sums go from the left. Definitions only.
+-- Vectors of three floats, each the list of its components, and a quaternion's turn of one: `dot`, `cross`, `normalized` and `rotate` of the Rust, and what
+-- its bodies do component by component. "each operation rounded once, sums from the left". Definitions only.
 use Prim.Native.Nat.{ℕ}
 use mathlib.Core.List.{List, [], _∷_}
-use mathlib.Core.Path.{_≡_}
-use lib.Dec.{T}
 use lib.IntN.{pos}
-use lib.ListN.{length, getD}
-use lib.Ieee.{Float, nan, binary32, add, sub, mul, div, ofInt, fits}
+use lib.ListN.{getD}
+use lib.Ieee.{Float, nan, binary32, add, sub, mul, div, ofInt}
 use Rattle.root.specs.Root.{rootOf}
 
+-- v[i]
 abbrev pub at : List Float → ℕ → Float
 at v i = getD v i nan
 
--- three components, each of which binary32 holds
-pub record Vector (v : List Float) : Type 0 where
-  pub long : length v ≡ 3
-  pub fit : (i : ℕ) → T (fits binary32 (at v i))
-
--- ---- the operations of binary32, products binding closer than sums
+-- ---- The operations of binary32, products binding closer than sums
 
 infixl 68 _⊕_
 abbrev pub _⊕_ : Float → Float → Float
@@ -34,13 +29,10 @@ infixl 70 _⊘_
 abbrev pub _⊘_ : Float → Float → Float
 x ⊘ y = div binary32 x y
 
--- ---- component by component
+-- ---- Component by component
 
 unfoldable pub plusOf : List Float → List Float → List Float
 plusOf a b = at a 0 ⊕ at b 0 ∷ at a 1 ⊕ at b 1 ∷ at a 2 ⊕ at b 2 ∷ []
-
-unfoldable pub minusOf : List Float → List Float → List Float
-minusOf a b = at a 0 ⊖ at b 0 ∷ at a 1 ⊖ at b 1 ∷ at a 2 ⊖ at b 2 ∷ []
 
 unfoldable pub timesOf : List Float → Float → List Float
 timesOf v k = at v 0 ⊗ k ∷ at v 1 ⊗ k ∷ at v 2 ⊗ k ∷ []
@@ -48,7 +40,7 @@ timesOf v k = at v 0 ⊗ k ∷ at v 1 ⊗ k ∷ at v 2 ⊗ k ∷ []
 unfoldable pub overOf : List Float → Float → List Float
 overOf v k = at v 0 ⊘ k ∷ at v 1 ⊘ k ∷ at v 2 ⊘ k ∷ []
 
--- ---- products
+-- ---- dot, cross and normalized
 
 unfoldable pub dotOf : List Float → List Float → Float
 dotOf a b = at a 0 ⊗ at b 0 ⊕ at a 1 ⊗ at b 1 ⊕ at a 2 ⊗ at b 2
@@ -59,11 +51,11 @@ crossOf a b =
     at a 2 ⊗ at b 0 ⊖ at a 0 ⊗ at b 2 ∷
     at a 0 ⊗ at b 1 ⊖ at a 1 ⊗ at b 0 ∷ []
 
--- each component over the root of the vector's dot with itself
+-- "Normalising divides each component by the root of the vector's dot with itself."
 unfoldable pub normalizedOf : List Float → List Float
 normalizedOf v = overOf v (rootOf (dotOf v v))
 
--- ---- the vector v, turned by the unit quaternion q, whose fourth component is the real one
+-- ---- rotate: the vector v turned by the unit quaternion q, whose fourth component is the real one
 
 unfoldable pub axisOf : List Float → List Float
 axisOf q = at q 0 ∷ at q 1 ∷ at q 2 ∷ []

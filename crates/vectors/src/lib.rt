@@ -2,7 +2,8 @@
 pub mod rotation;
 
 ghost use mathlib.Core.Path.{_≡_};
-ghost use Rattle.vectors.specs.Vectors.{plusOf, minusOf, timesOf, overOf, dotOf, normalizedOf};
+ghost use Rattle.vectors.specs.Vectors.{plusOf, timesOf, overOf, dotOf, normalizedOf};
+ghost use Rattle.vectors.specs.Steps.{minusOf};
 
 pub fn plus(a: [f32; 3], b: [f32; 3]) -> [f32; 3]
     ensures { λ r. ⌜ r ≡ plusOf a b ⌝ }

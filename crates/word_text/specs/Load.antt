@@ -1,4 +1,4 @@
--- The words of a text, put into a list one after the other. Definitions only.
+-- For tests alone: the words of a text, put into a list one after the other. Definitions only.
 use Prim.Native.Nat.{ℕ, zero, suc, _+_}
 use mathlib.Core.List.{List}
 use mathlib.Core.Bool.{false}

@@ -1,4 +1,5 @@
--- Words written as text: eight hexadecimal digits each, spaces and line ends between them, and remarks from `#` to the line's end. Definitions only.
+-- For tests alone: words written as text, as the data of the replay programs are, eight hexadecimal digits each, spaces and line ends between them, and remarks from `#` to the line's end.
+-- Definitions only.
 use Prim.Native.Nat.{ℕ, zero, suc, _+_, _*_, _-_}
 use mathlib.Core.List.{List, [], _∷_}
 use mathlib.Core.Bool.{Bool, true, false, cond}

@@ -1,4 +1,4 @@
-// Words written as text, eight hexadecimal digits each, which the replayed lists of data/ are made of.
+// Words written as text, eight hexadecimal digits each, which the replayed lists of data/ are made of: a library for tests alone.
 ghost use mathlib.Core.Path.{_≡_};
 ghost use Prim.Native.Nat.{_≤_};
 ghost use lib.ListN.{length, take, drop};
@@ -7,7 +7,7 @@ ghost use Rattle.word_text.specs.Text.{digitOf, digitsOf, isGap, inRemar
 ghost use Rattle.word_text.specs.Load.{loaded, loadedAs};
 
 // What stands next in a text.
-pub enum Next {
+enum Next {
     // a word, and the place after it
     Word(u32, usize),
     End,

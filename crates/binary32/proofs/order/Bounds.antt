@@ -2,7 +2,7 @@
 -- Assumes nothing.
 use mathlib.Core.Path.{_≡_, refl, sym, ap, _∙_}
 use mathlib.Core.Logic.{inl, inr}
-use mathlib.Core.Bool.{Bool, true, false, _&&_, _||_, cond, true≢false}
+use mathlib.Core.Bool.{Bool, true, false, _&&_, _||_, cond, and-false, true≢false}
 use Prim.Native.Nat.{ℕ, zero, suc, _+_, _*_, _<_}
 use native.Mathlib.Nat.{zero-mul, zero-lt-suc, eq-zero-or-pos, le-antisymm}
 use native.Mathlib.Omega.{arith}
@@ -11,25 +11,20 @@ use lib.IntN.{ℤ, pos}
 use lib.Dec.{T, ltb}
 use lib.Ieee.{Float, nan, inf, fin, binary32, up, down, below, level, lt, eq, fits, isNan, ofBits}
 use lib.Ieee.Fits.{down-pos}
-use Rattle.binary32.specs.Numbers.{float0, float1}
+use Rattle.binary32.specs.Binary32.{float0, float1, minusSign, before, maxOf, minOf}
 use Rattle.binary32.specs.ValueLaws.{same-value}
-use Rattle.binary32.specs.Order.{minusSign, before, maxOf, minOf}
 use Rattle.binary32.specs.CompareLaws.{lt-asym, zero-is, below-one}
-
-none : (b : Bool) → (b && false) ≡ false
-none true = refl
-none false = refl
 
 -- ---- the larger of x and 0
 pub above-0 : (x : Float) → lt float0 x ≡ true → x ≡ maxOf x float0
 unfolding maxOf before isNan lt ofBits
 above-0 nan h = absurd (true≢false (sym h))
 above-0 (inf true) h = absurd (true≢false (sym h))
-above-0 (inf false) h = sym (ap (λ (b : Bool). cond b float0 (inf false)) (none (eq (inf false) float0)))
+above-0 (inf false) h = sym (ap (λ (b : Bool). cond b float0 (inf false)) (and-false (eq (inf false) float0)))
 above-0 (fin true m e) h = absurd (true≢false (sym h))
 above-0 (fin false m e) h =
     let x = fin false m e in
-    sym (ap (λ (b : Bool). cond (b || (eq x float0 && false)) float0 x) (lt-asym float0 x h) ∙ ap (λ (b : Bool). cond b float0 x) (none (eq x float0)))
+    sym (ap (λ (b : Bool). cond (b || (eq x float0 && false)) float0 x) (lt-asym float0 x h) ∙ ap (λ (b : Bool). cond b float0 x) (and-false (eq x float0)))
 
 -- a number with a minus sign stands before +0
 minus-before : (a b : ℕ) → b ≡ 0 → (below true a false b || (level true a false b && true)) ≡ true
@@ -67,7 +62,7 @@ is-number = refl
 
 pub below-1 : (x : Float) → lt x float1 ≡ true → x ≡ minOf x float1
 unfolding minOf before
-below-1 x h = simp (number x h, is-number, lt-asym x float1 h, unsigned-1, none)
+below-1 x h = simp (number x h, is-number, lt-asym x float1 h, unsigned-1, and-false)
 
 one-held : T (fits binary32 float1)
 unfolding fits ofBits
@@ -93,4 +88,4 @@ not-below-1 (fin false m e) p h = go (ltb (1 * 1 * down e) (m * up e * 1)) refl
   where
     go : (b : Bool) → ltb (1 * 1 * down e) (m * up e * 1) ≡ b → float1 ≡ cond (b || (eq float1 (fin false m e) && false)) float1 (fin false m e)
     go true t = refl
-    go false t = is-1 m e p h t ∙ sym (ap (λ (b : Bool). cond b float1 (fin false m e)) (none (eq float1 (fin false m e))))
+    go false t = is-1 m e p h t ∙ sym (ap (λ (b : Bool). cond b float1 (fin false m e)) (and-false (eq float1 (fin false m e))))

@@ -9,8 +9,9 @@ use lib.IntN.{pos}
 use lib.Dec.{T, ltb, eqb}
 use lib.Ieee.{Float, nan, inf, fin, binary32, up, down, below, level, neg, add, lt, eq, fits, isNan, ofBits}
 use lib.Ieee.Fits.{down-pos}
-use Rattle.binary32.specs.Order.{minusSign, before, maxOf, minOf}
-use Rattle.binary32.specs.CompareLaws.{lt-left, lt-right, eq-right, second-true, first-zero, zero-of, level-sym, eq-sym}
+use Rattle.binary32.specs.Binary32.{minusSign, before, maxOf, minOf}
+use Rattle.flags.specs.FlagsLaws.{both-true}
+use Rattle.binary32.specs.CompareLaws.{lt-left, lt-right, eq-right, first-zero, zero-of, level-sym, eq-sym}
 
 -- ---- the larger, by the tests of the code
 pub less : (x y : Float) → lt x y ≡ true → y ≡ maxOf x y
@@ -45,7 +46,7 @@ same-sign (fin false m e) (fin t n d) h z = refl
 same-sign (fin true m e) (fin true n d) h z = refl
 same-sign (fin true m e) (fin false n d) h z =
     let a = m * up e * down d in
-    let none : m * up e ≡ 0 = first-zero (m * up e) (down d) (down-pos d) (eqb-true a 0 (second-true (eqb a (n * up d * down e)) (eqb a 0) h)) in
+    let none : m * up e ≡ 0 = first-zero (m * up e) (down d) (down-pos d) (eqb-true a 0 (both-true (eqb a (n * up d * down e)) (eqb a 0) h .1)) in
     let at : (u v : ℕ) → u ≡ 0 → v ≡ 0 → level true u false v ≡ true = λ u v p q. ap (λ (k : ℕ). level true k false v) p ∙ ap (λ (k : ℕ). level true 0 false k) q in
     sym (at (m * up e * 1) (0 * 1 * down e) (mul-one (m * up e) ∙ none) (zero-mul (down e))) ∙ z
 

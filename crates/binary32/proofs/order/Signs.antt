@@ -13,7 +13,7 @@ use lib.Ieee.Exact.{HasValue}
 use lib.Ieee.Fits.{up-pos, down-pos, neg-fits}
 use Rattle.binary32.specs.ValueLaws.{round-own}
 use Rattle.binary32.specs.CompareLaws.{below-one, zero-is}
-use Rattle.binary32.specs.Order.{magnitudeOf}
+use Rattle.binary32.specs.Binary32.{magnitudeOf}
 
 value : (s : Bool) (m : ℕ) (e : ℤ) (a : ℕ) → a ≡ m * up e → HasValue (fin s m e) s a (1 * down e)
 value s m e a h = (refl, ap (λ (z : ℕ). m * up e * z) (one-mul (down e)) ∙ ap (λ (z : ℕ). z * down e) (sym h))

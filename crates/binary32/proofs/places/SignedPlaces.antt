@@ -12,13 +12,9 @@ use lib.Ieee.{Float, nan, inf, fin, binary32, up, down, minus, round, neg, add, 
 use lib.Ieee.Back.{positive-back, negative-back}
 use lib.Ieee.Exact.{HasValue}
 use lib.Ieee.Fits.{down-pos}
-use Rattle.binary32.specs.Numbers.{float127, minus128}
-use Rattle.binary32.specs.Order.{clampOf}
-use Rattle.binary32.specs.Floor.{floorPart, floorOf}
+use Rattle.binary32.specs.Binary32.{float127, minus128, clampOf, floorPart, floorOf, wrapped}
 use Rattle.binary32.specs.FloorLaws.{floor-exact, floor-below-zero}
-use Rattle.binary32.specs.Held.{heldOf}
-use Rattle.binary32.specs.Raised.{raisable, raisedFloor}
-use Rattle.binary32.specs.Places.{wrapped}
+use Rattle.binary32.specs.Steps.{heldOf, raisable, raisedFloor}
 use Rattle.binary32.specs.HeldLaws.{held-cases}
 use Rattle.binary32.specs.CastLaws.{exact}
 use Rattle.binary32.proofs.places.Placing.{off-plus, off-minus, test-same, above-whole}

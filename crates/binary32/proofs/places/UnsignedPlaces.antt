@@ -12,10 +12,8 @@ use lib.Ieee.{Float, nan, inf, fin, binary32, up, down, minus, round, neg, add, 
 use lib.Ieee.Back.{round-whole}
 use lib.Ieee.Fits.{up-pos, down-pos}
 use lib.Ieee.Positive.{first-pos}
-use Rattle.binary32.specs.Numbers.{float0, float255}
-use Rattle.binary32.specs.Order.{clampOf}
-use Rattle.binary32.specs.Held.{heldOf, underByte}
-use Rattle.binary32.specs.Floor.{floorPart, floorOf}
+use Rattle.binary32.specs.Binary32.{float0, float255, clampOf, floorPart, floorOf}
+use Rattle.binary32.specs.Steps.{heldOf, underByte}
 use Rattle.binary32.specs.FloorLaws.{floor-exact, floor-below-zero}
 use Rattle.binary32.specs.CompareLaws.{zero-is}
 use Rattle.binary32.specs.ByteLaws.{unsigned-value}

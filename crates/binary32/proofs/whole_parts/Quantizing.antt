@@ -9,10 +9,8 @@ use borrow.Author.Tests.{lt-ltb, ltb-false}
 use lib.Dec.{T, ltb}
 use lib.Ieee.{Float, nan, inf, fin, binary32, up, down, round, mul, lt, fits, ofBits, toUnsigned}
 use lib.Ieee.Fits.{down-pos}
-use Rattle.binary32.specs.Numbers.{float0, float1, float255}
-use Rattle.binary32.specs.Order.{clampOf}
-use Rattle.binary32.specs.Held.{heldOf, underByte}
-use Rattle.binary32.specs.Quantize.{quantizedOf}
+use Rattle.binary32.specs.Binary32.{float0, float1, float255, clampOf, quantizedOf}
+use Rattle.binary32.specs.Steps.{heldOf, underByte}
 use Rattle.binary32.specs.CompareLaws.{lt-asym, zero-is, below-one}
 use Rattle.binary32.specs.HeldLaws.{held-cases}
 use Rattle.binary32.specs.ByteLaws.{round-under, round-minus, minus-unsigned}

@@ -2,7 +2,7 @@
 -- Assumes nothing.
 use mathlib.Core.Path.{sym, ap, _∙_}
 use borrow.Author.Needs.{needs}
-use Rattle.binary32.specs.Words.{wordOf}
+use Rattle.binary32.specs.Binary32.{wordOf}
 use Rattle.binary32.specs.WordsLaws.{word-of-nan}
 use Rattle.binary32.specs.NanLaws.{itself, differs}
 use Rattle.binary32.proofs.word_of.Statement.{statement}

@@ -4,11 +4,11 @@ use mathlib.Core.Path.{_≡_, refl, ap, _∙_}
 use mathlib.Core.List.{List, []}
 use lib.ListN.{length}
 use borrow.Author.Tests.{eq-eqb, ne-eqb}
-use Rattle.refusals.specs.Lengths.{blockRefusal}
-use Rattle.sources.specs.Sources.{given}
+use Rattle.refusals.specs.Refusals.{blockRefusal}
+use Rattle.sources.specs.Steps.{given}
 use Rattle.sources.specs.SourcesLaws.{given-words}
 use Rattle.block.specs.declared.BlockForm.{BlockForm}
-use Rattle.block.specs.Answers.{blockForm}
+use Rattle.block.specs.Steps.{blockForm}
 use Rattle.block_abi.specs.FormNumber.{numberOfForm, formNumber}
 use borrow.Author.Needs.{needs}
 use Rattle.block_abi.proofs.block_form.Statement.{statement}

@@ -4,17 +4,17 @@ use native.Mathlib.Omega.{arith}
 use mathlib.Core.List.{List}
 use lib.ListN.{length}
 use Rattle.lighting.specs.declared.OptionalLighting.{OptionalLighting}
-use Rattle.decoding.specs.Decode.{decoded}
+use Rattle.decoding.specs.Read.{read}
 use mathlib.Core.Path.{_≡_, refl, _∙_}
 use borrow.Author.Tests.{lt-leb, le-leb}
-use Rattle.refusals.specs.Lengths.{fileRefusal}
+use Rattle.refusals.specs.Refusals.{fileRefusal}
 use Rattle.block_abi.specs.PackFile.{packReading, packFileIf, packFile}
 use borrow.Author.Needs.{needs}
 use Rattle.block_abi.proofs.block_pack.Statement.{statement}
 use Rattle.block_abi.proofs.block_pack.Tie as tie
 
 -- a file that is long enough
-whole : (f b : List ℕ) (d : OptionalLighting) → 474 ≤ length f → d ≡ decoded f → packReading d b ≡ packFile f b
+whole : (f b : List ℕ) (d : OptionalLighting) → 474 ≤ length f → d ≡ read f → packReading d b ≡ packFile f b
 unfolding packFileIf fileRefusal
 whole f b d h e = rw (le-leb 474 (length f) h, e) refl
 

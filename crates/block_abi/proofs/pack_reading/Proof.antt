@@ -4,7 +4,7 @@ use mathlib.Core.Path.{_≡_, refl, _∙_}
 use mathlib.Core.Bool.{true, false}
 use mathlib.Core.List.{List}
 use Rattle.lighting.specs.declared.OptionalLighting.{OptionalLighting}
-use Rattle.block.specs.Answers.{packing, packs}
+use Rattle.block.specs.Block.{packing, packs}
 use Rattle.block_abi.specs.PackFile.{packReading}
 use borrow.Author.Needs.{needs}
 use Rattle.block_abi.proofs.pack_reading.Statement.{statement}

@@ -8,7 +8,7 @@ use mathlib.Core.Bool.{Bool, true, false, not, _&&_, _||_}
 use lib.Dec.{eqb, ltb, leb}
 use mir.Val.{boolByte}
 use borrow.Author.Tests.{eqb-true, eqb-false, ne-eqb, le-ltb, lt-ltb, leb-true, leb-false}
-use Rattle.block.specs.Formed.{isNumber, floatFormed}
+use Rattle.block.specs.Block.{isNumber, floatFormed}
 
 pub sum-more : (n x : ℕ) (a p : Bool) → eqb n 0 ≡ a → eqb x 0 ≡ p → eqb (n + x) 0 ≡ (a && p)
 sum-more n x true p e q = ap (λ (k : ℕ). eqb (k + x) 0) (eqb-true n 0 e) ∙ ap (λ (k : ℕ). eqb k 0) (zero-add x) ∙ q

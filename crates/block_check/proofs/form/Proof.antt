@@ -1,12 +1,12 @@
 -- `block_check::form` meets its contract: each answer is the form that the tests before it leave. Assumes nothing.
-use mathlib.Core.Path.{sym, _∙_}
 use Prim.Native.Nat.{_<_}
 use native.Mathlib.Omega.{arith}
-use Rattle.sources.specs.Sources.{given}
-use Rattle.block.specs.Formed.{words, allZero}
-use Rattle.block_check.proofs.Forms.{all-zero, not-zero, many}
-use Rattle.block_check.proofs.Answers.{sized, unsized}
+use mathlib.Core.Path.{sym, _∙_}
 use borrow.Author.Needs.{needs}
+use Rattle.sources.specs.Steps.{given}
+use Rattle.block.specs.Block.{words, allZero}
+use Rattle.block_check.proofs.Forms.{all-zero, not-zero, many}
+use Rattle.block_check.proofs.FormByTests.{sized, unsized}
 use Rattle.block_check.proofs.form.Statement.{statement}
 use Rattle.block_check.proofs.form.Tie as tie
 

@@ -1,9 +1,9 @@
 -- `block_check::lit_form` meets its contract: each answer is the form that the tests before it leave. Assumes nothing.
 use mathlib.Core.Path.{_∙_}
-use Rattle.sources.specs.Sources.{given}
-use Rattle.block.specs.Formed.{words}
-use Rattle.block_check.proofs.Answers.{by-unused, by-head, by-lights, by-shape}
 use borrow.Author.Needs.{needs}
+use Rattle.sources.specs.Steps.{given}
+use Rattle.block.specs.Block.{words}
+use Rattle.block_check.proofs.FormByTests.{by-unused, by-head, by-lights, by-shape}
 use Rattle.block_check.proofs.lit_form.Statement.{statement}
 use Rattle.block_check.proofs.lit_form.Tie as tie
 

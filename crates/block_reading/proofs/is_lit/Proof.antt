@@ -1,6 +1,6 @@
 -- `block_reading::is_lit` meets its contract: it is the definition, case by case. Assumes nothing.
-use Rattle.block_reading.specs.Answer.{isLit}
 use borrow.Author.Needs.{needs}
+use Rattle.block_reading.specs.Steps.{isLit}
 use Rattle.block_reading.proofs.is_lit.Statement.{statement}
 use Rattle.block_reading.proofs.is_lit.Tie as tie
 

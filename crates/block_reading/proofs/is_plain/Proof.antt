@@ -6,11 +6,11 @@ use mathlib.Core.List.{[], _∷_}
 use mathlib.Core.Logic.{⊎-elim}
 use denote.Enum.Declared.{tagOf}
 use types.Run.{OneOf}
-use Rattle.block.proofs.BlockForm.{the-type}
+use borrow.Author.Needs.{needs}
 use Rattle.block.specs.declared.BlockForm.{BlockForm}
 use Rattle.block.specs.declared.BlockForm.the-variants.{Off, NotWellFormed, NanFree, WithNan}
-use Rattle.block_reading.specs.Answer.{isPlain}
-use borrow.Author.Needs.{needs}
+use Rattle.block.proofs.BlockForm.{the-type}
+use Rattle.block_reading.specs.Steps.{isPlain}
 use Rattle.block_reading.proofs.is_plain.Statement.{statement}
 use Rattle.block_reading.proofs.is_plain.Tie as tie
 

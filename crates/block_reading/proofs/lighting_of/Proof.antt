@@ -1,11 +1,10 @@
 -- `block_reading::lighting_of` meets its contract: the lighting with the lights that the slots have. Assumes nothing.
 use mathlib.Core.Path.{ap, _∙_}
 use mathlib.Core.List.{List}
-use Rattle.lighting.specs.declared.Light.{Light}
-use Rattle.sources.specs.Sources.{given}
-use Rattle.block.specs.Formed.{words}
-use Rattle.block.specs.Reading.{blockLightingWith, blockLighting}
 use borrow.Author.Needs.{needs}
+use Rattle.sources.specs.Steps.{given}
+use Rattle.lighting.specs.declared.Light.{Light}
+use Rattle.block.specs.Block.{words, blockLightingWith, blockLighting}
 use Rattle.block_reading.proofs.lighting_of.Statement.{statement}
 use Rattle.block_reading.proofs.lighting_of.Tie as tie
 

@@ -1,7 +1,7 @@
 -- `block_reading::outcome_of` meets its contract: it is the definition, case by case. Assumes nothing.
 use borrow.Author.Tests.{eq-eqb, ne-eqb}
-use Rattle.block_reading.specs.Answer.{formRefusal}
 use borrow.Author.Needs.{needs}
+use Rattle.block_reading.specs.Steps.{formRefusal}
 use Rattle.block_reading.proofs.outcome_of.Statement.{statement}
 use Rattle.block_reading.proofs.outcome_of.Tie as tie
 

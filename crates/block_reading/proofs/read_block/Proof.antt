@@ -3,13 +3,12 @@
 use Prim.Native.Nat.{ℕ}
 use mathlib.Core.Path.{refl, ap, _∙_}
 use mathlib.Core.List.{List, []}
-use Rattle.sources.specs.Sources.{given}
-use Rattle.sources.specs.SourcesLaws.{given-words}
-use Rattle.block.specs.Formed.{words}
-use Rattle.block.specs.Reading.{blockLighting}
-use Rattle.block.specs.Answers.{blockForm}
-use Rattle.block_reading.proofs.Answers.{can-read, read-lit, read-dark}
 use borrow.Author.Needs.{needs}
+use Rattle.sources.specs.Steps.{given}
+use Rattle.sources.specs.SourcesLaws.{given-words}
+use Rattle.block.specs.Block.{words, blockLighting}
+use Rattle.block.specs.Steps.{blockForm}
+use Rattle.block_reading.proofs.ReadByForm.{can-read, read-lit, read-dark}
 use Rattle.block_reading.proofs.read_block.Statement.{statement}
 use Rattle.block_reading.proofs.read_block.Tie as tie
 

@@ -1,5 +1,5 @@
 -- `block_shading::is_off` meets its contract: it is the definition, case by case. Assumes nothing.
-use Rattle.block_shading.specs.Answers.{isOff}
+use Rattle.block_shading.specs.Steps.{isOff}
 use borrow.Author.Needs.{needs}
 use Rattle.block_shading.proofs.is_off.Statement.{statement}
 use Rattle.block_shading.proofs.is_off.Tie as tie

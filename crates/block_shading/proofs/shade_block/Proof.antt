@@ -2,12 +2,13 @@
 -- leads to the definition's answer. Assumes nothing.
 use mathlib.Core.Path.{_≡_, sym, ap, _∙_}
 use mathlib.Core.Bool.{true, false}
-use Rattle.sources.specs.Sources.{given}
-use Rattle.block.specs.Answers.{blockForm}
-use Rattle.block_reading.specs.Answer.{isLit, isPlain}
-use Rattle.block_reading.specs.AnswerLaws.{is-lit, is-plain}
-use Rattle.block_shading.specs.BlockShading.{shaded, eightOf}
-use Rattle.block_shading.specs.Answers.{isOff}
+use Rattle.sources.specs.Steps.{given}
+use Rattle.block.specs.Steps.{blockForm}
+use Rattle.block_reading.specs.Steps.{isLit, isPlain}
+use Rattle.block_reading.specs.FormLaws.{is-lit, is-plain}
+use Rattle.shading.specs.Shade.{shaded}
+use Rattle.block_shading.specs.BlockShading.{eightOf}
+use Rattle.block_shading.specs.Steps.{isOff}
 use Rattle.block_shading.specs.AnswersLaws.{wrong-block, wrong-tables, wrong-fragment, wrong-answer, lit-answer, off-answer, bad-answer}
 use borrow.Author.Needs.{needs}
 use Rattle.block_shading.proofs.shade_block.Statement.{statement}

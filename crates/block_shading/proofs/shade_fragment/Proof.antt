@@ -1,5 +1,5 @@
 -- `block_shading::shade_fragment` meets its contract: each call is the definition's, and without bytes the words are those of the slices. Assumes nothing.
-use Rattle.sources.specs.Sources.{given}
+use Rattle.sources.specs.Steps.{given}
 use Rattle.block_shading.specs.BlockShading.{eightOf}
 use borrow.Author.Needs.{needs}
 use Rattle.block_shading.proofs.shade_fragment.Statement.{statement}

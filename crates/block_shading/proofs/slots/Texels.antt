@@ -3,8 +3,9 @@ use Prim.Native.Nat.{ℕ, zero, suc, _≤_}
 use native.Mathlib.Omega.{arith}
 use mathlib.Core.Path.{_≡_, refl}
 use mathlib.Core.List.{List}
-use Rattle.block_shading.specs.Fragment.{texelsOf, texelAt}
-use Rattle.shading.specs.Parts.{texelOf}
+use Rattle.block_shading.specs.BlockShading.{texelsOf}
+use Rattle.block_shading.specs.Steps.{texelAt}
+use Rattle.shading.specs.Steps.{texelOf}
 
 pub texel : (q : List ℕ) (unit : ℕ) → unit ≤ 3 → texelAt q unit ≡ texelOf (texelsOf q) unit
 unfolding texelsOf

@@ -7,12 +7,12 @@ use mathlib.Core.List.{List}
 use borrow.Author.Tests.{lt-leb, not-true, not-false}
 use lib.ListN.{length}
 use lib.Seq.{length-take-le}
-use Rattle.printing.specs.Writing.{out, puts}
-use Rattle.capture_check.specs.Refusal.{captureWordsRefusal}
+use Rattle.printing.specs.Steps.{out, puts}
+use Rattle.capture_check.specs.Contents.{captureWordsRefusal}
 use Rattle.capture_check.specs.ContentsLaws.{sized-most}
 use Rattle.refusals.specs.declared.Refusal.the-variants.{BadCapture}
-use Rattle.capture_calls.specs.declared.answers.Answer.the-variants.{Refused}
-use Rattle.capture_calls.specs.Printed.{printedIf, captures}
+use Rattle.capture_calls.specs.declared.Answer.the-variants.{Refused}
+use Rattle.capture_calls.specs.Capture.{printedIf, captures}
 use Rattle.capture.proofs.Whole.{printed-bad, printed-good, captures-is, front-words}
 use borrow.Author.Needs.{needs}
 use Rattle.capture.proofs.run_capture.Statement.{statement}

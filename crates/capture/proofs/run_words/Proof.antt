@@ -1,10 +1,10 @@
 -- `capture::run_words` meets its contract. What the check refuses prints its line, and only what it does not refuse is run. Assumes nothing.
 use native.Mathlib.Omega.{arith}
 use mathlib.Core.Path.{_≡_, sym, ap, _∙_}
-use Rattle.refusals.specs.Numbers.{outcomeNumber}
-use Rattle.printing.specs.Writing.{out, puts}
-use Rattle.capture_check.specs.Refusal.{captureWordsRefusal}
-use Rattle.capture_calls.specs.Printed.{printedIf}
+use Rattle.refusals.specs.Refusals.{outcomeNumber}
+use Rattle.printing.specs.Steps.{out, puts}
+use Rattle.capture_check.specs.Contents.{captureWordsRefusal}
+use Rattle.capture_calls.specs.Capture.{printedIf}
 use Rattle.capture.proofs.Whole.{refused-number, refused-small, refused-prints}
 use borrow.Author.Needs.{needs}
 use Rattle.capture.proofs.run_words.Statement.{statement}

@@ -3,7 +3,7 @@
 use native.Mathlib.Omega.{arith}
 use mathlib.Core.Path.{sym, _∙_}
 use borrow.Author.Tests.{not-true, not-false}
-use Rattle.capture_check.specs.Refusal.{captureWordsRefusal}
+use Rattle.capture_check.specs.Contents.{captureWordsRefusal}
 use Rattle.capture_check.specs.ContentsLaws.{shaped-end, shaped-gapless}
 use borrow.Author.Needs.{needs}
 use Rattle.capture_check.proofs.check_words.Statement.{statement}

@@ -4,7 +4,8 @@ use mathlib.Core.Path.{_≡_, refl}
 use mathlib.Core.List.{List, [], _∷_}
 use lib.Dec.{eqb·suc-zero}
 use lib.ListN.{length}
-use Rattle.sources.specs.Sources.{wordsOf, given}
+use Rattle.sources.specs.Sources.{wordsOf}
+use Rattle.sources.specs.Steps.{given}
 
 pub given-none : (bytes : List ℕ) → given [] bytes ≡ wordsOf bytes
 unfolding given wordsOf

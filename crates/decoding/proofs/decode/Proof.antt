@@ -1,6 +1,7 @@
--- `decoding::decode` meets its contract. The test is the definition's, and the rest is what `lighting` or `off` ensures. Assumes nothing.
+-- `decoding::decode` meets its contract. The test is that of the steps, which come to the law's `read`, and the rest is what `lighting` or `off` ensures. Assumes nothing.
 use mathlib.Core.Path.{sym}
-use Rattle.decoding.specs.Decode.{decoded, lightingOn}
+use Rattle.decoding.specs.ReadLaws.{read-law}
+use Rattle.decoding.specs.Steps.{lightingOn, readSteps}
 use borrow.Author.Needs.{needs}
 use Rattle.decoding.proofs.decode.Statement.{statement}
 use Rattle.decoding.proofs.decode.Tie as tie
@@ -24,9 +25,10 @@ off-requires : tie.Need-off-requires
 off-requires c κs = search needs
 
 returns : tie.Need-returns
-unfolding decoded lightingOn
+unfolding readSteps lightingOn
 returns c =
     simp (
+      read-law,
       sym (c .before .before .before .before .before .register .ensures),
       sym (c .before .before .before .before .flag .ensures),
       sym (c .before .before .before .register2 .ensures),
@@ -36,9 +38,10 @@ returns c =
     )
 
 returns-2 : tie.Need-returns-2
-unfolding decoded lightingOn
+unfolding readSteps lightingOn
 returns-2 c =
     simp (
+      read-law,
       sym (c .before .before .before .before .before .register .ensures),
       sym (c .before .before .before .before .flag .ensures),
       sym (c .before .before .before .register2 .ensures),

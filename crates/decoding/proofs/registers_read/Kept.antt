@@ -9,8 +9,9 @@ use lib.ListN.{length, getD, set, take, drop, length-append, length-drop, length
 use lib.Seq.{length-take-le, getD-append-add, getD-at, getD-take, getD-drop, getD-set-same, getD-set-other, ext-getD}
 use lib.Dec.{ltb, eqb}
 use borrow.Author.Tests.{eqb-true, eqb-false, ltb-true, ltb-false, eq-eqb, ne-eqb}
-use Rattle.decoding.specs.RegistersRead.{keptWords}
-use Rattle.decoding.specs.Comparing.{sameWords, differences}
+use Rattle.decoding.specs.Read.{registersRead}
+use Rattle.decoding.specs.Steps.{differences}
+use Rattle.sources.specs.Sources.{sameWords}
 use Rattle.decoding.specs.ComparingLaws.{same-equal, same-self, differences-none, none-differences}
 
 -- the words k are those of the file f, place by place
@@ -54,13 +55,13 @@ module _ (f : List ℕ) (h : 474 ≤ length f) where
   tables-length : length (take 3 (drop 0x1D0 f)) ≡ 3
   tables-length = length-take-le 3 (drop 0x1D0 f) (omega (arith, length-drop 0x1D0 f))
 
-  kept-length : length (keptWords f) ≡ 139
-  unfolding keptWords
+  kept-length : length (registersRead f) ≡ 139
+  unfolding registersRead
   kept-length =
       whole-length (getD f 0x08F 0) (getD f 0x1C6 0) (getD f 0x1D9 0) (take 133 (drop 0x140 f)) (take 3 (drop 0x1D0 f)) lights-length tables-length
 
-  kept-agrees : Agrees f (keptWords f)
-  unfolding keptWords
+  kept-agrees : Agrees f (registersRead f)
+  unfolding registersRead
   kept-agrees =
       let l = take 133 (drop 0x140 f) in
       let t = take 3 (drop 0x1D0 f) in
@@ -95,17 +96,17 @@ module _ (f : List ℕ) (h : 474 ≤ length f) where
           let e : i ≡ 138 = omega (arith, ltb-false i 138 ew) in
           rw e (sym (p .slots) ∙ q .slots)
 
-  pub agrees-kept : (k : List ℕ) → length k ≡ 139 → Agrees f k → k ≡ keptWords f
+  pub agrees-kept : (k : List ℕ) → length k ≡ 139 → Agrees f k → k ≡ registersRead f
   agrees-kept k n a =
-      ext-getD 0 k (keptWords f) (n ∙ sym kept-length) (λ i p. word-same k (keptWords f) a kept-agrees i (omega arith))
+      ext-getD 0 k (registersRead f) (n ∙ sym kept-length) (λ i p. word-same k (registersRead f) a kept-agrees i (omega arith))
 
   -- the differences of the five parts
   abbrev found : List ℕ → ℕ
   found k =
       differences f 0x08F k 0 1 + differences f 0x140 k 1 133 + differences f 0x1C6 k 134 1 + differences f 0x1D0 k 135 3 + differences f 0x1D9 k 138 1
 
-  pub found-same : (k : List ℕ) → length k ≡ 139 → eqb (found k) 0 ≡ sameWords k (keptWords f)
-  found-same k n = go (sameWords k (keptWords f)) refl
+  pub found-same : (k : List ℕ) → length k ≡ 139 → eqb (found k) 0 ≡ sameWords k (registersRead f)
+  found-same k n = go (sameWords k (registersRead f)) refl
     where
       only : (from at : ℕ) → getD f from 0 ≡ getD k at 0 → (x : ℕ) → x < 1 → getD f (from + x) 0 ≡ getD k (at + x) 0
       only from at e x p =
@@ -113,7 +114,7 @@ module _ (f : List ℕ) (h : 474 ≤ length f) where
           let j : at + x ≡ at = omega arith in
           rw (i, j) e
 
-      none : found k ≡ 0 → k ≡ keptWords f
+      none : found k ≡ 0 → k ≡ registersRead f
       none e =
           agrees-kept k n
           (record {
@@ -124,14 +125,14 @@ module _ (f : List ℕ) (h : 474 ≤ length f) where
             slots = differences-none f 0x1D9 k 138 1 (omega arith) 0 (omega arith);
           })
 
-      same : k ≡ keptWords f → found k ≡ 0
+      same : k ≡ registersRead f → found k ≡ 0
       same e =
           let a : Agrees f k = rw e kept-agrees in
           omega (arith, none-differences f 0x08F k 0 1 (only 0x08F 0 (a .enable)), none-differences f 0x140 k 1 133 (a .lights), none-differences f 0x1C6 k 134 1 (only 0x1C6 134 (a .disable)), none-differences f 0x1D0 k 135 3 (a .tables), none-differences f 0x1D9 k 138 1 (only 0x1D9 138 (a .slots)))
 
-      go : (b : Bool) → sameWords k (keptWords f) ≡ b → eqb (found k) 0 ≡ b
-      go true e = eq-eqb (found k) 0 (same (same-equal k (keptWords f) e))
-      go false e = ne-eqb (found k) 0 (λ z. false≢true (sym e ∙ (rw (none z) (same-self (keptWords f)))))
+      go : (b : Bool) → sameWords k (registersRead f) ≡ b → eqb (found k) 0 ≡ b
+      go true e = eq-eqb (found k) 0 (same (same-equal k (registersRead f) e))
+      go false e = ne-eqb (found k) 0 (λ z. false≢true (sym e ∙ (rw (none z) (same-self (registersRead f)))))
 
 -- one light's word more
 pub lights-more : (f k : List ℕ) (j : ℕ) → 1 ≤ j → j < length k → ((x : ℕ) → 1 + x < j → getD f (0x140 + x) 0 ≡ getD k (1 + x) 0) → (x : ℕ) → 1 + x < j + 1 → getD f (0x140 + x) 0 ≡ getD (set k j (getD f (0x13F + j) 0)) (1 + x) 0
@@ -191,7 +192,7 @@ module _ (k : List ℕ) (n : length k ≡ 139) (a b c d e : ℕ) where
   at-138 : getD stored 138 0 ≡ e
   at-138 = getD-set-same (set (set (set (set k 134 a) 135 b) 136 c) 137 d) 138 e 0 (simp length-set (omega arith))
 
-pub stored-kept : (f k : List ℕ) → 474 ≤ length f → (n : length k ≡ 139) → getD f 0x08F 0 ≡ getD k 0 0 → ((x : ℕ) → 1 + x < 134 → getD f (0x140 + x) 0 ≡ getD k (1 + x) 0) → stored k n (getD f 0x1C6 0) (getD f 0x1D0 0) (getD f 0x1D1 0) (getD f 0x1D2 0) (getD f 0x1D9 0) ≡ keptWords f
+pub stored-kept : (f k : List ℕ) → 474 ≤ length f → (n : length k ≡ 139) → getD f 0x08F 0 ≡ getD k 0 0 → ((x : ℕ) → 1 + x < 134 → getD f (0x140 + x) 0 ≡ getD k (1 + x) 0) → stored k n (getD f 0x1C6 0) (getD f 0x1D0 0) (getD f 0x1D1 0) (getD f 0x1D2 0) (getD f 0x1D9 0) ≡ registersRead f
 stored-kept f k h n first lights =
     let a = getD f 0x1C6 0 in
     let b = getD f 0x1D0 0 in

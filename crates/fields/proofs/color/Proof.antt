@@ -1,7 +1,7 @@
 -- `fields::color` meets its contract: each field is below 1024, and the three are those of the definition. Assumes nothing.
 use native.Mathlib.Nat.{div-one}
 use borrow.Author.Needs.{needs}
-use Rattle.fields.specs.Colour.{colourField, colourOf}
+use Rattle.fields.specs.Fields.{colourField, colourOf}
 use Rattle.fields.proofs.color.Statement.{statement}
 use Rattle.fields.proofs.color.Tie as tie
 

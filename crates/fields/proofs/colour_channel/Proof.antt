@@ -2,7 +2,7 @@
 use mathlib.Core.Path.{refl}
 use native.Mathlib.Omega.{arith}
 use lib.Ieee.{ofInt, ofBits}
-use Rattle.fields.specs.Colour.{colourChannel}
+use Rattle.fields.specs.Fields.{colourChannel}
 use Rattle.binary32.specs.CastLaws.{exact}
 use Rattle.fields.proofs.colour_channel.Statement.{statement}
 use Rattle.fields.proofs.colour_channel.Tie as tie

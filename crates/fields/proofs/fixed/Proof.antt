@@ -1,7 +1,7 @@
 -- `fields::fixed` meets its contract: what is left of the remainder by 2 ^ 13 is signed, and the quotient is the definition's. Assumes nothing.
 use borrow.Author.Needs.{needs}
 use lib.Ieee.{ofInt, ofBits}
-use Rattle.fields.specs.Fixed.{fixedOf}
+use Rattle.fields.specs.Fields.{fixedOf}
 use Rattle.fields.proofs.fixed.Statement.{statement}
 use Rattle.fields.proofs.fixed.Tie as tie
 

@@ -1,7 +1,7 @@
 -- `fields::signed` meets its contract: both casts are exact, and from 4096 on the number is 8192 less n, negated. Assumes nothing.
 use native.Mathlib.Omega.{arith}
 use borrow.Author.Tests.{lt-ltb, le-ltb}
-use Rattle.fields.specs.Fixed.{signed13}
+use Rattle.fields.specs.Fields.{signed13}
 use Rattle.binary32.specs.CastLaws.{exact, below-zero}
 use Rattle.fields.proofs.signed.Statement.{statement}
 use Rattle.fields.proofs.signed.Tie as tie

@@ -1,17 +1,17 @@
 -- `light_steps::step` meets its contract: each operation and call is the definition's, in its order, and a light that reads no table has 1 for each value.
 -- Assumes nothing.
 use mathlib.Core.Path.{sym, _∙_}
-use Rattle.sources.specs.Sources.{given}
-use Rattle.light_tables.specs.Toward.{towardOf}
-use Rattle.light_steps.specs.Step.{stepOf}
+use Rattle.sources.specs.Steps.{given}
+use Rattle.light_tables.specs.Steps.{directionsOf}
+use Rattle.light_steps.specs.Steps.{stepOf}
 use Rattle.light_steps.specs.ReadingsLaws.{read-none}
-use Rattle.light_steps.proofs.Ways.{toward-is, distance-is}
+use Rattle.light_steps.proofs.Rays.{directions-is, distance-is}
 use borrow.Author.Needs.{needs}
 use Rattle.light_steps.proofs.step.Statement.{statement}
 use Rattle.light_steps.proofs.step.Tie as tie
 
-way-to-requires : tie.Need-way-to-requires
-way-to-requires c κs = search needs
+ray-to-requires : tie.Need-ray-to-requires
+ray-to-requires c κs = search needs
 
 distance-of-requires : tie.Need-distance-of-requires
 distance-of-requires c κs = search needs
@@ -19,20 +19,20 @@ distance-of-requires c κs = search needs
 reads-tables-requires : tie.Need-reads-tables-requires
 reads-tables-requires c κs = search needs
 
-toward-light-requires : tie.Need-toward-light-requires
-toward-light-requires c κs = search needs
+directions-of-requires : tie.Need-directions-of-requires
+directions-of-requires c κs = search needs
 
 values-of-requires : tie.Need-values-of-requires
 values-of-requires c κs =
     let d = c .before .before .before in
     let s = d .before .before .before .before .before .before .before in
-    (s .pre .0, s .pre .1, distance-is (given (s .args .tables .now) (s .args .bytes .now)) (s .args .light) (s .args .frame .view) _ _ (d .before .before .way-to .ensures) (d .distance-of .ensures))
+    (s .pre .0, s .pre .1, distance-is (given (s .args .tables .now) (s .args .bytes .now)) (s .args .light) (s .args .frame .view) _ _ (d .before .before .ray-to .ensures) (d .distance-of .ensures))
 
-with-light-requires : tie.Need-with-light-requires
-with-light-requires c κs = search needs
+with-values-requires : tie.Need-with-values-requires
+with-values-requires c κs = search needs
 
-toward-light-requires-2 : tie.Need-toward-light-requires-2
-toward-light-requires-2 c κs = search needs
+directions-of-requires-2 : tie.Need-directions-of-requires-2
+directions-of-requires-2 c κs = search needs
 
 with-unread-requires : tie.Need-with-unread-requires
 with-unread-requires c κs = search needs
@@ -43,7 +43,7 @@ returns c =
     let d = c .before .before .before .before .before in
     let s = d .before .before .before .before .before .before .before in
     simp
-    (c .with-light .ensures, c .before .values-of .ensures, toward-is (s .args .light) (s .args .frame) (s .args .lookups .«needs_half») _ _ (d .before .before .way-to .ensures) (c .before .before .toward-light .ensures))
+    (c .with-values .ensures, c .before .values-of .ensures, directions-is (s .args .light) (s .args .frame) (s .args .lookups .«needs_half») _ _ (d .before .before .ray-to .ensures) (c .before .before .directions-of .ensures))
 
 returns-2 : tie.Need-returns-2
 unfolding stepOf
@@ -52,22 +52,22 @@ returns-2 c =
     let s = d .before .before .before .before .before .before .before in
     simp (
       c .with-unread .ensures,
-      toward-is (s .args .light) (s .args .frame) (s .args .lookups .«needs_half») _ _ (d .before .before .way-to .ensures) (c .before .toward-light2 .ensures),
-      distance-is (given (s .args .tables .now) (s .args .bytes .now)) (s .args .light) (s .args .frame .view) _ _ (d .before .before .way-to .ensures) (d .distance-of .ensures),
-      read-none (given (s .args .tables .now) (s .args .bytes .now)) (s .args .lookups) (s .args .frame) (towardOf (s .args .light) (s .args .frame) (s .args .lookups .«needs_half»)) (s .args .light) (s .args .last) (s .pre .1) (sym (c .before .before .before .reads-tables .ensures) ∙ c .before .before .if1 .left),
+      directions-is (s .args .light) (s .args .frame) (s .args .lookups .«needs_half») _ _ (d .before .before .ray-to .ensures) (c .before .directions-of2 .ensures),
+      distance-is (given (s .args .tables .now) (s .args .bytes .now)) (s .args .light) (s .args .frame .view) _ _ (d .before .before .ray-to .ensures) (d .distance-of .ensures),
+      read-none (given (s .args .tables .now) (s .args .bytes .now)) (s .args .lookups) (s .args .frame) (directionsOf (s .args .light) (s .args .frame) (s .args .lookups .«needs_half»)) (s .args .light) (s .args .last) (s .pre .1) (sym (c .before .before .before .reads-tables .ensures) ∙ c .before .before .if1 .left),
     )
 
 pub step-spec : {M : Type 1} → statement M
 step-spec =
     tie.close
     (tie.spec
-    way-to-requires
+    ray-to-requires
     distance-of-requires
     reads-tables-requires
-    toward-light-requires
+    directions-of-requires
     values-of-requires
-    with-light-requires
-    toward-light-requires-2
+    with-values-requires
+    directions-of-requires-2
     with-unread-requires
     returns
     returns-2)

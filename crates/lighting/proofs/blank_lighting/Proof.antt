@@ -1,6 +1,6 @@
 -- `lighting::blank_lighting` meets its contract. Its light is what `blank_light` ensures, and the rest is the definition's own. Assumes nothing.
 use borrow.Author.Needs.{needs}
-use Rattle.lighting.specs.Blank.{blankLighting}
+use Rattle.lighting.specs.Lighting.{blankLighting}
 use Rattle.lighting.proofs.blank_lighting.Statement.{statement}
 use Rattle.lighting.proofs.blank_lighting.Tie as tie
 

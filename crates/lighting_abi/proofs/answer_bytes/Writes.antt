@@ -7,7 +7,8 @@ use mathlib.Core.Path.{_≡_, refl, sym, ap, _∙_}
 use mathlib.Core.List.{List, [], _∷_, _++_, append-assoc}
 use lib.ListN.{length, getD, take, set, length-set}
 use lib.Seq.{take-all, take-suc, take-suc-set}
-use Rattle.lighting_abi.specs.AnswerBytesBytes.{bytesOf, withWord}
+use Rattle.lighting_abi.specs.Boundary.{bytesOf}
+use Rattle.lighting_abi.specs.Steps.{withWord}
 
 bytes-append : (a b : List ℕ) → bytesOf (a ++ b) ≡ bytesOf a ++ bytesOf b
 unfolding bytesOf

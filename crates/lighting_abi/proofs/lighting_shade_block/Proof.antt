@@ -4,13 +4,14 @@ use mathlib.Core.List.{[]}
 use native.Mathlib.Omega.{arith}
 use mathlib.Core.Path.{_≡_, sym, ap, _∙_}
 use mathlib.Core.Bool.{true, false}
-use Rattle.sources.specs.Sources.{given}
-use Rattle.lighting_abi.specs.AnswerBytesBytes.{bytesOf}
-use Rattle.block.specs.Answers.{blockForm}
-use Rattle.block_reading.specs.Answer.{isLit, isPlain}
-use Rattle.block_reading.specs.AnswerLaws.{is-lit, is-plain}
-use Rattle.block_shading.specs.BlockShading.{shaded, eightOf}
-use Rattle.block_shading.specs.Answers.{isOff}
+use Rattle.sources.specs.Steps.{given}
+use Rattle.lighting_abi.specs.Boundary.{bytesOf}
+use Rattle.block.specs.Steps.{blockForm}
+use Rattle.block_reading.specs.Steps.{isLit, isPlain}
+use Rattle.block_reading.specs.FormLaws.{is-lit, is-plain}
+use Rattle.shading.specs.Shade.{shaded}
+use Rattle.block_shading.specs.BlockShading.{eightOf}
+use Rattle.block_shading.specs.Steps.{isOff}
 use Rattle.lighting_abi.specs.BytesLaws.{given-length, bad-block, bad-tables, bad-fragment, short-answer, lit-bytes, off-bytes, bad-bytes}
 use borrow.Author.Needs.{needs}
 use Rattle.lighting_abi.proofs.lighting_shade_block.Statement.{statement}

@@ -8,8 +8,8 @@ use Rattle.lighting.specs.declared.Shadow.{Shadow}
 use Rattle.lighting.specs.declared.OptionalShadow.{OptionalShadow}
 use Rattle.lighting.specs.declared.OptionalShadow.the-variants.{Unshadowed, Shadowed}
 use Rattle.lighting.specs.declared.Light.{Light}
-use Rattle.block.specs.Words.{flagWord, bumpWord, shadowWord, isScaled, flagsWord}
-use Rattle.block.specs.Answers.{bumpUnit, shadowUnit}
+use Rattle.lighting.specs.Lighting.{isScaled, bumpUnit, shadowUnit}
+use Rattle.block.specs.Block.{flagWord, bumpWord, shadowWord, flagsWord}
 
 pub normal-unit : (b : Bump) (u : ℕ) (r : Bool) → b ≡ Normal u r → bumpUnit b ≤ 3 → u ≤ 3
 unfolding bumpUnit

@@ -1,8 +1,8 @@
 -- `packing::pack` meets its contract: each answer is the definition's, by the tests that led to it. Assumes nothing.
-use borrow.Author.Needs.{needs}
 use mathlib.Core.Path.{sym, _∙_}
+use borrow.Author.Needs.{needs}
 use Rattle.block.specs.AcceptedLaws.{accepted-range}
-use Rattle.packing.proofs.Answers.{wrong-block, refused, done}
+use Rattle.packing.proofs.PackAnswers.{wrong-block, refused, done}
 use Rattle.packing.proofs.pack.Statement.{statement}
 use Rattle.packing.proofs.pack.Tie as tie
 

@@ -3,11 +3,8 @@ use borrow.Author.Needs.{needs}
 use Rattle.packing.proofs.put_slot.Statement.{statement}
 use Rattle.packing.proofs.put_slot.Tie as tie
 
-mul-at : tie.Need-mul-at
-mul-at c = search needs
-
-add-at : tie.Need-add-at
-add-at c = search needs
+slot-at-requires : tie.Need-slot-at-requires
+slot-at-requires c κs = search needs
 
 put-light-requires : tie.Need-put-light-requires
 put-light-requires c κs = (search needs, c .before .before .before .before .pre .2 (c .before .if1 .taken))
@@ -19,20 +16,19 @@ same-length : tie.Need-same-length
 same-length c = search needs
 
 returns : tie.Need-returns
-returns c = rw (c .before .before .before .before .if1 .taken) (c .before .before .put-light .ensures)
+returns c = rw (c .before .before .before .before .if1 .taken, ← c .before .before .before .before .before .slot-at .ensures) (c .before .before .put-light .ensures)
 
 same-length-2 : tie.Need-same-length-2
 same-length-2 c = search needs
 
 returns-2 : tie.Need-returns-2
-returns-2 c = rw (c .before .before .before .before .if1 .left) (c .before .before .put-zeros .ensures)
+returns-2 c = rw (c .before .before .before .before .if1 .left, ← c .before .before .before .before .before .slot-at .ensures) (c .before .before .put-zeros .ensures)
 
 pub put-slot-spec : {M : Type 1} → statement M
 put-slot-spec =
     tie.close
     (tie.spec
-    mul-at
-    add-at
+    slot-at-requires
     put-light-requires
     put-zeros-requires
     same-length

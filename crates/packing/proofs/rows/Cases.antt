@@ -3,19 +3,19 @@ use Prim.Native.Nat.{ℕ}
 use mathlib.Core.Path.{_≡_, refl}
 use mathlib.Core.List.{List, [], _∷_}
 use lib.Ieee.{Float}
-use Rattle.binary32.specs.Words.{wordOf}
+use Rattle.binary32.specs.Binary32.{wordOf}
+use Rattle.vectors.specs.Vectors.{at}
 use Rattle.lighting.specs.declared.Lookup.{Lookup}
 use Rattle.lighting.specs.declared.OptionalLookup.the-variants.{Missing, Present}
-use Rattle.vectors.specs.Vectors.{at}
-use Rattle.block.specs.Words.{bitOf, presenceWord, inputWord, absoluteWord, scaleWord, lookupWords, vectorWords}
-use Rattle.packing.specs.Put.{putWords}
+use Rattle.block.specs.Block.{bitOf, lookupRow, lookupWords, vectorWords}
+use Rattle.packing.specs.Steps.{putWords}
 
 pub missing-words : lookupWords Missing ≡ 0 ∷ 0 ∷ 0 ∷ 0 ∷ []
-unfolding lookupWords presenceWord inputWord absoluteWord scaleWord
+unfolding lookupWords lookupRow
 missing-words = refl
 
 pub present-words : (l : Lookup) → lookupWords (Present l) ≡ 1 ∷ l .input ∷ bitOf (l .absolute) ∷ wordOf (l .scale) ∷ []
-unfolding lookupWords presenceWord inputWord absoluteWord scaleWord
+unfolding lookupWords lookupRow
 present-words l = refl
 
 pub vector-row : (b b′ : List ℕ) (i x y z : ℕ) (v : List Float) → x ≡ wordOf (at v 0) → y ≡ wordOf (at v 1) → z ≡ wordOf (at v 2)

@@ -4,9 +4,9 @@ use Prim.Native.Nat.{_≤_, _+_, _-_, _*_}
 use native.Mathlib.Omega.{arith}
 use mathlib.Core.Path.{_≡_, refl}
 use lib.ListN.{length, drop, length-set}
-use Rattle.printing.specs.Writing.{puts}
-use Rattle.printing.specs.Writing as Writing
-use Rattle.printing.specs.Text.{line, Bytes}
+use Rattle.printing.specs.Steps.{puts, Bytes}
+use Rattle.printing.specs.Steps as Writing
+use Rattle.printing.specs.Printing.{line}
 use Rattle.printing.specs.TextLaws.{line-turn, line-none}
 use borrow.Author.Needs.{needs}
 use Rattle.printing.proofs.put_line.Statement.{statement}

@@ -3,9 +3,9 @@ use native.Mathlib.Omega.{arith}
 use mathlib.Core.Path.{ap, _∙_}
 use mathlib.Core.List.{[], _∷_, _++_}
 use lib.ListN.{length-set}
-use Rattle.printing.specs.Writing.{Out, puts}
+use Rattle.printing.specs.Steps.{Out, puts}
 use Rattle.printing.specs.WritingLaws.{puts-more}
-use Rattle.printing.specs.Decimal.{decimal}
+use Rattle.printing.specs.Printing.{decimal}
 use borrow.Author.Needs.{needs}
 use Rattle.printing.proofs.put_refused.Statement.{statement}
 use Rattle.printing.proofs.put_refused.Tie as tie

@@ -4,8 +4,8 @@ use native.Mathlib.Omega.{arith}
 use mathlib.Core.Path.{_≡_, refl, sym, _∙_}
 use native.Mathlib.Nat.{add-zero}
 use lib.ListN.{length, drop, length-set}
-use Rattle.printing.specs.Writing.{puts}
-use Rattle.printing.specs.Writing as Writing
+use Rattle.printing.specs.Steps.{puts}
+use Rattle.printing.specs.Steps as Writing
 use Rattle.printing.specs.WritingLaws.{puts-next}
 use Rattle.printing.specs.PieceLaws.{drop-none}
 use borrow.Author.Needs.{needs}

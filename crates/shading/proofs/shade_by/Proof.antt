@@ -1,14 +1,12 @@
 -- `shading::shade_by` meets its contract: each operation and call is the definition's, in its order. Assumes nothing.
-use Rattle.shading.specs.Shade.{shadeBy, sumsOf}
+use Rattle.shading.specs.Steps.{shadeBy, Numbered}
 use Prim.Native.Nat.{_≤_}
 use native.Mathlib.Omega.{arith}
 use mathlib.Core.Path.{_≡_}
 use mathlib.Core.Bool.{true}
 use Rattle.lighting.specs.declared.Lighting.{Lighting}
-use Rattle.block.specs.Words.{lightAt}
-use Rattle.block.specs.Answers.{inRange}
+use Rattle.lighting.specs.Lighting.{slotOf, lightAt, inRange}
 use Rattle.block.specs.PackedLaws.{range-count, range-number}
-use Rattle.shading.specs.Numbered.{Numbered}
 use borrow.Author.Needs.{needs}
 use Rattle.shading.proofs.shade_by.Statement.{statement}
 use Rattle.shading.proofs.shade_by.Tie as tie
@@ -16,7 +14,7 @@ use Rattle.shading.proofs.shade_by.Tie as tie
 -- an accepted count, and numbers of at most 7
 numbered : (l : Lighting) → inRange l ≡ true → Numbered (l .lights) (l .«light_count»)
 unfolding lightAt
-numbered l h k n = let m : lightAt l k .number .0 ≤ 7 = range-number l h k n in omega arith
+numbered l h k n = let m : lightAt l (slotOf k) .number .0 ≤ 7 = range-number l h k n in omega arith
 
 lookups-of-requires : tie.Need-lookups-of-requires
 lookups-of-requires c κs = search needs
@@ -33,7 +31,7 @@ finished-requires : tie.Need-finished-requires
 finished-requires c κs = search needs
 
 returns : tie.Need-returns
-unfolding shadeBy sumsOf
+unfolding shadeBy
 returns c = simp (c .finished .ensures, c .before .sum-lights .ensures, c .before .before .settings-of .ensures, c .before .before .before .lookups-of .ensures)
 
 pub shade-by-spec : {M : Type 1} → statement M

@@ -1,6 +1,6 @@
 -- The four bytes are read where the definition reads them. Each is at most 255, so that no product and no sum reaches 2 ^ 32.
 use borrow.Author.Needs.{needs}
-use Rattle.sources.specs.Sources.{wordAt}
+use Rattle.sources.specs.Steps.{wordAt}
 use Rattle.sources.proofs.word_of.Statement.{statement}
 use Rattle.sources.proofs.word_of.Tie as tie
 use Rattle.sources.proofs.word_of.Reads as reads

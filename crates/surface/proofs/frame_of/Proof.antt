@@ -1,5 +1,5 @@
 -- `surface::frame_of` meets its contract: each operation and call is the definition's, in its order. Assumes nothing.
-use Rattle.surface.specs.Surface.{frameOf}
+use Rattle.surface.specs.Steps.{frameOf}
 use borrow.Author.Needs.{needs}
 use Rattle.surface.proofs.frame_of.Statement.{statement}
 use Rattle.surface.proofs.frame_of.Tie as tie

@@ -1,5 +1,5 @@
 -- `surface::tangent` meets its contract: each operation and call is the definition's, in its order. Assumes nothing.
-use Rattle.surface.specs.Surface.{tangentOf}
+use Rattle.surface.specs.Steps.{tangentOf}
 use borrow.Author.Tests.{ne-eqb}
 use borrow.Author.Needs.{needs}
 use Rattle.surface.proofs.tangent.Statement.{statement}

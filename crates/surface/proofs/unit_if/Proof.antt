@@ -1,5 +1,5 @@
 -- `surface::unit_if` meets its contract: each operation and call is the definition's, in its order. Assumes nothing.
-use Rattle.surface.specs.Surface.{unitIf}
+use Rattle.surface.specs.Steps.{unitIf}
 use borrow.Author.Needs.{needs}
 use Rattle.surface.proofs.unit_if.Statement.{statement}
 use Rattle.surface.proofs.unit_if.Tie as tie

@@ -1,6 +1,6 @@
 -- `unit::fresh_cache` meets its contract: it makes the definition's record field by field, around the blank lighting. Assumes nothing.
 use borrow.Author.Needs.{needs}
-use Rattle.unit.specs.Fresh.{freshCache}
+use Rattle.unit.specs.Unit.{freshCache}
 use Rattle.unit.proofs.fresh_cache.Statement.{statement}
 use Rattle.unit.proofs.fresh_cache.Tie as tie
 

@@ -9,17 +9,16 @@ use mathlib.Core.Bool.{Bool, true, false, cond, false≢true}
 use lib.ListN.{length}
 use lib.Dec.{eqb}
 use borrow.Author.Tests.{eqb-true}
-use Rattle.refusals.specs.Numbers.{numberOf, outcomeNumber}
+use Rattle.refusals.specs.Refusals.{numberOf, outcomeNumber}
 use Rattle.refusals.specs.declared.Outcome.{Outcome}
 use Rattle.refusals.specs.declared.Outcome.the-variants.{Done, Refused}
 use Rattle.refusals.specs.declared.Refusal.{Refusal}
-use Rattle.block.specs.Answers.{packedReading}
+use Rattle.block.specs.Block.{packedReading}
 use Rattle.unit.specs.declared.Cache.{Cache}
-use Rattle.unit.specs.CachedRead.{current, readAnew, refreshed}
-use Rattle.unit.specs.HandOver.{Handed, handed, handOverRefusal, packable, taken, handOverRead, handOverIf, handOver}
+use Rattle.unit.specs.Unit.{current, readAnew, refreshed, Handed, handed, handOverRefusal, packable, taken, handOverRead, handOverIf, handOver}
 use Rattle.unit.specs.DecodedLaws.{decoded-packable}
 use Rattle.unit.specs.HandOverLaws.{refusal-not-zero}
-use Rattle.unit.specs.Taking.{Took, took, takes}
+use Rattle.unit.specs.Steps.{Took, took, takes}
 
 module _ (n : Cache) (t : List ℕ) (g : ℕ) (c : Cache) (b ct : List ℕ) (cg : ℕ) (x y : List ℕ) where
   -- refused, the cache n that the read left is the one before

@@ -8,19 +8,17 @@ use mathlib.Core.Bool.{Bool, true, false, cond}
 use lib.ListN.{length}
 use lib.Dec.{eqb}
 use borrow.Author.Tests.{eq-eqb, ne-eqb}
-use Rattle.refusals.specs.Lengths.{tablesRefusal, savedRefusal, blockRefusal}
-use Rattle.refusals.specs.Numbers.{numberOf, outcomeNumber}
+use Rattle.refusals.specs.Refusals.{tablesRefusal, savedRefusal, blockRefusal, numberOf, outcomeNumber}
 use Rattle.refusals.specs.declared.Outcome.{Outcome}
 use Rattle.refusals.specs.declared.Outcome.the-variants.{Done, Refused}
 use Rattle.refusals.specs.declared.Refusal.{Refusal}
 use Rattle.lighting.specs.declared.OptionalLighting.{OptionalLighting}
-use Rattle.block.specs.Words.{packed}
-use Rattle.block.specs.Answers.{Packing, packing, accepted, lightingRefusal, packRefusal, packedReading, packs}
-use Rattle.tables.specs.Restore.{Saved, saved, saveRefusal, save}
+use Rattle.block.specs.Block.{packed, Packing, packing, accepted, lightingRefusal, packRefusal, packedReading, packs}
+use Rattle.tables.specs.Tables.{Saved, saved, saveRefusal, save}
 use Rattle.tables.specs.RestoreLaws.{save-data}
-use Rattle.unit.specs.HandOver.{packable}
+use Rattle.unit.specs.Unit.{packable}
 use Rattle.unit.specs.HandOverLaws.{refusal-not-zero}
-use Rattle.unit.specs.Taking.{packsReading, takes, took}
+use Rattle.unit.specs.Steps.{packsReading, takes, took}
 
 -- `pack` on a lighting that is on
 pub pack-on : (d : OptionalLighting) (b : List ℕ) → d .on ≡ true → length b ≡ 328 → packs (d .lighting) b ≡ packsReading d b

@@ -5,8 +5,7 @@ use native.Mathlib.Omega.{arith}
 use mathlib.Core.Path.{_≡_, refl, ap, _∙_}
 use mathlib.Core.List.{List}
 use lib.ListN.{length}
-use Rattle.unit.specs.Fresh.{freshCache}
-use Rattle.unit.specs.HandOver.{Handed, handed, handedOf}
+use Rattle.unit.specs.Unit.{freshCache, Handed, handed, handedOf}
 use Rattle.unit_abi.specs.HandOvers.{next, handOvers, copied, copyOf}
 use borrow.Author.Needs.{needs}
 use Rattle.unit_abi.proofs.unit_hand_overs.Statement.{statement}

@@ -1,6 +1,6 @@
 -- `vectors::minus` meets its contract: component by component, as the definition has it, and each index is below 3. Assumes nothing.
 use mathlib.Core.Path.{refl}
-use Rattle.vectors.specs.Vectors.{minusOf}
+use Rattle.vectors.specs.Steps.{minusOf}
 use borrow.Author.Needs.{needs}
 use Rattle.vectors.proofs.minus.Statement.{statement}
 use Rattle.vectors.proofs.minus.Tie as tie

@@ -8,12 +8,8 @@ use lib.IntN.{pos}
 use lib.Dec.{T}
 use lib.Ieee.{Float, binary32, add, sub, mul, neg, ofInt, toSigned, isNan, ofBits, toBits}
 use lib.Ieee.Fits.{mul-fits}
-use Rattle.binary32.specs.Numbers.{float127, float128, minus128}
-use Rattle.binary32.specs.Order.{clampOf}
-use Rattle.binary32.specs.Floor.{floorOf}
-use Rattle.binary32.specs.Held.{heldOf}
-use Rattle.binary32.specs.Raised.{raisable, raisedFloor}
-use Rattle.binary32.specs.Places.{wrapped, signedPlaceOf}
+use Rattle.binary32.specs.Binary32.{float127, float128, minus128, clampOf, floorOf, wrapped, signedPlaceOf}
+use Rattle.binary32.specs.Steps.{heldOf, raisable, raisedFloor}
 use Rattle.binary32.specs.declared.Place.{Place}
 use Rattle.binary32.specs.NanLaws.{itself, differs}
 use Rattle.binary32.specs.RaisedLaws.{big, raised-number, raised-bits, raised-off, raised-bounds}

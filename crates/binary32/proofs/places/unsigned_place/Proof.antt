@@ -8,9 +8,8 @@ use lib.Dec.{T}
 use lib.Ieee.{Float, binary32, minus, add, mul, ofInt, toUnsigned}
 use lib.Ieee.Casts.{toUnsigned-lt}
 use lib.Ieee.Fits.{mul-fits}
-use Rattle.binary32.specs.Numbers.{float0, float255, float256}
-use Rattle.binary32.specs.Held.{heldOf, underByte}
-use Rattle.binary32.specs.Places.{unsignedPlaceOf}
+use Rattle.binary32.specs.Binary32.{float0, float255, float256, unsignedPlaceOf}
+use Rattle.binary32.specs.Steps.{heldOf, underByte}
 use Rattle.binary32.specs.declared.Place.{Place}
 use Rattle.binary32.proofs.places.UnsignedPlaces.{held-under, placed}
 use Rattle.binary32.proofs.places.unsigned_place.Statement.{statement}

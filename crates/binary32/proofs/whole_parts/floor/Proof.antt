@@ -10,7 +10,7 @@ use borrow.Author.Tests.{eq-eqb, ne-eqb}
 use lib.Dec.{T}
 use lib.Ieee.{Float, binary32, eq, fits, ofBits, toBits}
 use lib.Ieee.Bits.{ofBits-toBits}
-use Rattle.binary32.specs.Floor.{floorOf}
+use Rattle.binary32.specs.Binary32.{floorOf}
 use Rattle.binary32.specs.NanLaws.{itself, differs}
 use Rattle.binary32.specs.CastLaws.{exact}
 use Rattle.binary32.specs.FloorDigitLaws.{floor-nan, floor-zero, some-bit, floor-large, kept, kept-few, floor-plus, floor-minus-whole, floor-minus-rest}

@@ -7,9 +7,8 @@ use borrow.Author.Needs.{needs}
 use lib.IntN.{pos}
 use lib.Dec.{T}
 use lib.Ieee.{Float, binary32, fits, mul, ofInt, isNan, toBits}
-use Rattle.binary32.specs.Numbers.{float0, float1, float255}
-use Rattle.binary32.specs.Held.{heldOf}
-use Rattle.binary32.specs.Raised.{raisable, raisedFloor}
+use Rattle.binary32.specs.Binary32.{float0, float1, float255}
+use Rattle.binary32.specs.Steps.{heldOf, raisable, raisedFloor}
 use Rattle.binary32.specs.RaisedLaws.{raised-number, raised-bits, raised-bounds, under-raisable, under-raised}
 use Rattle.binary32.proofs.whole_parts.Quantizing.{product-under, same-channel}
 use Rattle.binary32.proofs.whole_parts.quantized.Statement.{statement}

@@ -7,7 +7,7 @@ use native.Mathlib.Omega.{arith}
 use borrow.Author.Needs.{needs}
 use lib.Dec.{T}
 use lib.Ieee.{Float, nan, inf, fin, binary32, fits, isNan, toBits}
-use Rattle.binary32.specs.Held.{underByte}
+use Rattle.binary32.specs.Steps.{underByte}
 use Rattle.binary32.specs.ByteLaws.{under-bits, whole-is}
 use Rattle.binary32.proofs.whole_parts.whole.Statement.{statement}
 use Rattle.binary32.proofs.whole_parts.whole.Tie as tie

@@ -1,8 +1,8 @@
 -- `floats::floats_form` meets its contract: its tests are the definition's. Assumes nothing.
 use mathlib.Core.Path.{refl, sym, _∙_}
 use borrow.Author.Tests.{eq-eqb, ne-eqb}
-use Rattle.block_check.specs.Floats.{floatsForm}
 use borrow.Author.Needs.{needs}
+use Rattle.block_check.specs.Steps.{floatsForm}
 use Rattle.block_check.proofs.floats.floats_form.Statement.{statement}
 use Rattle.block_check.proofs.floats.floats_form.Tie as tie
 

@@ -1,8 +1,8 @@
 -- `floats::nan_bit` meets its contract: a word is a number or above the infinities, and a flag is at most 1. Assumes nothing.
 use Prim.Native.Nat.{_%_}
 use lib.Dec.{ltb}
-use Rattle.block_check.proofs.floats.Flags.{nan-flag, flag-few}
 use borrow.Author.Needs.{needs}
+use Rattle.block_check.proofs.floats.Flags.{nan-flag, flag-few}
 use Rattle.block_check.proofs.floats.nan_bit.Statement.{statement}
 use Rattle.block_check.proofs.floats.nan_bit.Tie as tie
 

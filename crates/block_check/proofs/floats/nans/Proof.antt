@@ -1,14 +1,15 @@
 -- `floats::nans` meets its contract. The loop's invariant: no more NaNs are found than words are passed, and none exactly if each of those
 -- is a number. Assumes nothing.
-use mathlib.Core.Path.{_≡_, refl, ap, _∙_}
 use Prim.Native.Nat.{_+_, _≤_, _-_}
 use native.Mathlib.Numerals.{add-one}
 use native.Mathlib.Omega.{arith}
+use mathlib.Core.Path.{_≡_, refl, ap, _∙_}
 use lib.Dec.{eqb}
-use Rattle.sources.specs.Sources.{given}
-use Rattle.block.specs.Formed.{words, every, isNumber}
-use Rattle.block_check.proofs.floats.Flags.{sum-more}
 use borrow.Author.Needs.{needs}
+use Rattle.sources.specs.Steps.{given}
+use Rattle.lighting.specs.Forms.{every}
+use Rattle.block.specs.Block.{words, isNumber}
+use Rattle.block_check.proofs.floats.Flags.{sum-more}
 use Rattle.block_check.proofs.floats.nans.Statement.{statement}
 use Rattle.block_check.proofs.floats.nans.Tie as tie
 

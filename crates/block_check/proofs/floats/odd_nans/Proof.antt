@@ -1,14 +1,15 @@
 -- `floats::odd_nans` meets its contract. The loop's invariant: a bit is set exactly if one of the first k words is another NaN than
 -- 7FC00000. Assumes nothing.
-use mathlib.Core.Path.{_≡_, refl, ap, _∙_}
 use Prim.Native.Nat.{_+_, _≤_, _-_}
 use native.Mathlib.Numerals.{add-one}
 use native.Mathlib.Omega.{arith}
+use mathlib.Core.Path.{_≡_, refl, ap, _∙_}
 use lib.Dec.{eqb}
-use Rattle.sources.specs.Sources.{given}
-use Rattle.block.specs.Formed.{words, every, floatFormed}
-use Rattle.block_check.specs.ZerosLaws.{or-more}
 use borrow.Author.Needs.{needs}
+use Rattle.sources.specs.Steps.{given}
+use Rattle.lighting.specs.Forms.{every}
+use Rattle.block.specs.Block.{words, floatFormed}
+use Rattle.block_check.specs.ZerosLaws.{or-more}
 use Rattle.block_check.proofs.floats.odd_nans.Statement.{statement}
 use Rattle.block_check.proofs.floats.odd_nans.Tie as tie
 

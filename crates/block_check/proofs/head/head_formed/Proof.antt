@@ -1,12 +1,12 @@
 -- `head::head_formed` meets its contract: it is the definition, of the words that are read. Assumes nothing.
 use mathlib.Core.Path.{refl}
-use Rattle.block_check.specs.Head.{headFormed}
 use borrow.Author.Needs.{needs}
+use Rattle.block_check.specs.Steps.{headFormed}
 use Rattle.block_check.proofs.head.head_formed.Statement.{statement}
 use Rattle.block_check.proofs.head.head_formed.Tie as tie
 
-settings-formed-requires : tie.Need-settings-formed-requires
-settings-formed-requires c κs = search needs
+options-formed-requires : tie.Need-options-formed-requires
+options-formed-requires c κs = search needs
 
 lookups-formed-requires : tie.Need-lookups-formed-requires
 lookups-formed-requires c κs = search needs
@@ -19,13 +19,13 @@ word-requires-2 c κs = search needs
 
 returns : tie.Need-returns
 unfolding headFormed
-returns c = rw (c .before .before .before .settings-formed .ensures, c .before .before .lookups-formed .ensures, c .before .word .ensures, c .word2 .ensures) refl
+returns c = rw (c .before .before .before .options-formed .ensures, c .before .before .lookups-formed .ensures, c .before .word .ensures, c .word2 .ensures) refl
 
 pub head-formed-spec : {M : Type 1} → statement M
 head-formed-spec =
     tie.close
     (tie.spec
-    settings-formed-requires
+    options-formed-requires
     lookups-formed-requires
     word-requires
     word-requires-2

@@ -3,11 +3,12 @@ use Prim.Native.Nat.{ℕ}
 use mathlib.Core.Path.{_≡_, refl, sym, _∙_}
 use mathlib.Core.Bool.{true}
 use lib.Dec.{lit<}
-use Rattle.sources.specs.Sources.{given}
-use Rattle.block.specs.Formed.{words, from, every, zeros, scaleFormed}
-use Rattle.block.specs.WordLaws.{zero-at}
-use Rattle.block_check.specs.Head.{lookupFormed}
 use borrow.Author.Needs.{needs}
+use Rattle.sources.specs.Steps.{given}
+use Rattle.lighting.specs.Forms.{every}
+use Rattle.block.specs.Block.{words, from, zeros, scaleFormed}
+use Rattle.block.specs.WordLaws.{zero-at}
+use Rattle.block_check.specs.Steps.{lookupFormed}
 use Rattle.block_check.proofs.head.lookup_formed.Statement.{statement}
 use Rattle.block_check.proofs.head.lookup_formed.Tie as tie
 

@@ -1,16 +1,17 @@
 -- `head::lookups_formed` meets its contract. The loop's invariant: the first k lookups are formed, so that a lookup that is not is the first of
 -- those, and the test of all of them fails where that of one does. Assumes nothing.
-use mathlib.Core.Path.{_≡_, refl, sym, _∙_}
 use Prim.Native.Nat.{ℕ, _≤_, _<_, _-_}
 use native.Mathlib.Numerals.{add-one}
 use native.Mathlib.Omega.{arith}
+use mathlib.Core.Path.{_≡_, refl, sym, _∙_}
 use mathlib.Core.Bool.{true, false}
 use borrow.Author.Tests.{not-true, not-false}
-use Rattle.sources.specs.Sources.{given}
-use Rattle.block.specs.Formed.{words, from, lookupAt, every}
-use Rattle.block.specs.TestLaws.{_also_, every-bad}
-use Rattle.block_check.specs.Head.{lookupFormed, lookupsFormed}
 use borrow.Author.Needs.{needs}
+use Rattle.sources.specs.Steps.{given}
+use Rattle.lighting.specs.Forms.{every}
+use Rattle.block.specs.Block.{words, from, lookupAt}
+use Rattle.block.specs.TestLaws.{_also_, every-bad}
+use Rattle.block_check.specs.Steps.{lookupFormed, lookupsFormed}
 use Rattle.block_check.proofs.head.lookups_formed.Statement.{statement}
 use Rattle.block_check.proofs.head.lookups_formed.Tie as tie
 

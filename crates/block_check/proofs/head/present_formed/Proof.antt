@@ -1,9 +1,10 @@
 -- `head::present_formed` meets its contract: it is the definition, of the words that are read. Assumes nothing.
-use mathlib.Core.Path.{refl}
 use native.Mathlib.Nat.{add-zero}
-use Rattle.block.specs.Formed.{zeros, every}
-use Rattle.block_check.specs.Head.{lookupFormed}
+use mathlib.Core.Path.{refl}
 use borrow.Author.Needs.{needs}
+use Rattle.lighting.specs.Forms.{every}
+use Rattle.block.specs.Block.{zeros}
+use Rattle.block_check.specs.Steps.{lookupFormed}
 use Rattle.block_check.proofs.head.present_formed.Statement.{statement}
 use Rattle.block_check.proofs.head.present_formed.Tie as tie
 

@@ -1,12 +1,12 @@
 -- `lights::light_formed` meets its contract: it is the definition, of the words that are read. Assumes nothing.
 use Prim.Native.Nat.{ℕ}
+use native.Mathlib.Omega.{arith}
 use mathlib.Core.Path.{_≡_, refl}
 use mathlib.Core.Bool.{Bool, _&&_, _||_}
 use lib.Dec.{ltb, eqb}
-use Rattle.block.specs.Formed.{bitAt}
-use Rattle.block_check.specs.Lit.{lightFormed}
-use native.Mathlib.Omega.{arith}
 use borrow.Author.Needs.{needs}
+use Rattle.block.specs.Block.{bitAt}
+use Rattle.block_check.specs.Steps.{lightFormed}
 use Rattle.block_check.proofs.lights.light_formed.Statement.{statement}
 use Rattle.block_check.proofs.lights.light_formed.Tie as tie
 

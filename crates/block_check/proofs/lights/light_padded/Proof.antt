@@ -1,8 +1,8 @@
 -- `lights::light_padded` meets its contract: it is the definition, of the words that are read. Assumes nothing.
-use mathlib.Core.Path.{refl}
-use Rattle.block_check.specs.Lit.{lightPadded}
 use native.Mathlib.Omega.{arith}
+use mathlib.Core.Path.{refl}
 use borrow.Author.Needs.{needs}
+use Rattle.block_check.specs.Steps.{lightPadded}
 use Rattle.block_check.proofs.lights.light_padded.Statement.{statement}
 use Rattle.block_check.proofs.lights.light_padded.Tie as tie
 

@@ -1,10 +1,10 @@
 -- `lights::vectors_padded` meets its contract: it is the definition, of the words that are read. Assumes nothing.
 use Prim.Native.Nat.{ℕ}
+use native.Mathlib.Omega.{arith}
 use mathlib.Core.Path.{_≡_, refl}
 use mathlib.Core.Bool.{_&&_}
 use lib.Dec.{eqb}
-use Rattle.block_check.specs.Lit.{vectorsPadded}
-use native.Mathlib.Omega.{arith}
+use Rattle.block_check.specs.Steps.{vectorsPadded}
 use Rattle.block_check.proofs.lights.vectors_padded.Statement.{statement}
 use Rattle.block_check.proofs.lights.vectors_padded.Tie as tie
 

@@ -1,13 +1,14 @@
 -- `zeros::mixed` meets its contract. The loop's invariant: the OR of the first k words is zero exactly if they are. Assumes nothing.
-use mathlib.Core.Path.{_≡_, refl, ap}
 use Prim.Native.Nat.{_≤_, _-_}
 use native.Mathlib.Numerals.{add-one}
 use native.Mathlib.Omega.{arith}
+use mathlib.Core.Path.{_≡_, refl, ap}
 use lib.Dec.{eqb}
-use Rattle.sources.specs.Sources.{given}
-use Rattle.block.specs.Formed.{words, every, zeros}
-use Rattle.block_check.specs.ZerosLaws.{or-more}
 use borrow.Author.Needs.{needs}
+use Rattle.sources.specs.Steps.{given}
+use Rattle.lighting.specs.Forms.{every}
+use Rattle.block.specs.Block.{words, zeros}
+use Rattle.block_check.specs.ZerosLaws.{or-more}
 use Rattle.block_check.proofs.zeros.mixed.Statement.{statement}
 use Rattle.block_check.proofs.zeros.mixed.Tie as tie
 

@@ -1,7 +1,7 @@
 -- `head::bump_of` meets its contract: its tests are the definition's. Assumes nothing.
 use borrow.Author.Tests.{eq-eqb, ne-eqb}
-use Rattle.block.specs.Reading.{blockBump}
 use borrow.Author.Needs.{needs}
+use Rattle.block.specs.Block.{blockBump}
 use Rattle.block_reading.proofs.head.bump_of.Statement.{statement}
 use Rattle.block_reading.proofs.head.bump_of.Tie as tie
 

@@ -1,7 +1,7 @@
 -- `head::lookup_of` meets its contract: each field is the word that the definition reads. Assumes nothing.
 use mathlib.Core.Path.{refl}
-use Rattle.block.specs.Reading.{blockLookup}
 use borrow.Author.Needs.{needs}
+use Rattle.block.specs.Block.{blockLookup}
 use Rattle.block_reading.proofs.head.lookup_of.Statement.{statement}
 use Rattle.block_reading.proofs.head.lookup_of.Tie as tie
 

@@ -1,7 +1,7 @@
 -- `head::lookups_of` meets its contract: each field is what the call that makes it ensures. Assumes nothing.
 use mathlib.Core.Path.{refl}
-use Rattle.block_reading.specs.Parts.{headLookups}
 use borrow.Author.Needs.{needs}
+use Rattle.block_reading.specs.Steps.{headLookups}
 use Rattle.block_reading.proofs.head.lookups_of.Statement.{statement}
 use Rattle.block_reading.proofs.head.lookups_of.Tie as tie
 

@@ -1,9 +1,9 @@
 -- `head::optional_lookup_of` meets its contract: its test is the definition's, of the first word. Assumes nothing.
-use mathlib.Core.Path.{refl}
 use native.Mathlib.Nat.{add-zero}
+use mathlib.Core.Path.{refl}
 use borrow.Author.Tests.{eq-eqb, ne-eqb}
-use Rattle.block.specs.Reading.{blockOptionalLookup}
 use borrow.Author.Needs.{needs}
+use Rattle.block.specs.Block.{blockOptionalLookup}
 use Rattle.block_reading.proofs.head.optional_lookup_of.Statement.{statement}
 use Rattle.block_reading.proofs.head.optional_lookup_of.Tie as tie
 

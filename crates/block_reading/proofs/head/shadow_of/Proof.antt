@@ -1,7 +1,7 @@
 -- `head::shadow_of` meets its contract: its test is the definition's. Assumes nothing.
 use borrow.Author.Tests.{eq-eqb, ne-eqb}
-use Rattle.block.specs.Reading.{blockShadow}
 use borrow.Author.Needs.{needs}
+use Rattle.block.specs.Block.{blockShadow}
 use Rattle.block_reading.proofs.head.shadow_of.Statement.{statement}
 use Rattle.block_reading.proofs.head.shadow_of.Tie as tie
 

@@ -1,9 +1,9 @@
 -- `light::distance_of` meets its contract: its test is the definition's. Assumes nothing.
+use Prim.Native.Nat.{_/_, _%_}
 use mathlib.Core.Path.{refl}
 use borrow.Author.Tests.{eq-eqb, ne-eqb}
-use Prim.Native.Nat.{_/_, _%_}
-use Rattle.block.specs.Reading.{blockDistance}
 use borrow.Author.Needs.{needs}
+use Rattle.block.specs.Block.{blockDistance}
 use Rattle.block_reading.proofs.light.distance_of.Statement.{statement}
 use Rattle.block_reading.proofs.light.distance_of.Tie as tie
 

@@ -1,12 +1,16 @@
 -- `light::light_of` meets its contract: each part is what the call that makes it ensures. Assumes nothing.
+use Prim.Native.Nat.{ℕ}
 use native.Mathlib.Omega.{arith}
 use mathlib.Core.Path.{ap, _∙_}
-use Rattle.sources.specs.Sources.{given}
-use Rattle.block.specs.Formed.{words, from}
-use Rattle.block_reading.proofs.light.Parts.{vector-from, vector-first, numbered, light-made}
 use borrow.Author.Needs.{needs}
+use Rattle.sources.specs.Steps.{given}
+use Rattle.block.specs.Block.{words, from, blockLight}
+use Rattle.block_reading.proofs.light.LightMade.{vector-from, vector-first, numbered, light-made}
 use Rattle.block_reading.proofs.light.light_of.Statement.{statement}
 use Rattle.block_reading.proofs.light.light_of.Tie as tie
+
+slot-at-requires : tie.Need-slot-at-requires
+slot-at-requires c κs = search needs
 
 add-word : tie.Need-add-word
 add-word c = search needs
@@ -54,22 +58,25 @@ plain-vector-requires-7 : tie.Need-plain-vector-requires-7
 plain-vector-requires-7 c κs = search needs
 
 distance-of-requires : tie.Need-distance-of-requires
-distance-of-requires c κs = search needs
+distance-of-requires c κs =
+    let s = c .before .before .before .before .before .before .before .before in
+    (s .before .before .before .pre .0, omega (arith, s .slot-at .ensures, s .before .before .before .pre .1))
 
 add-word-2 : tie.Need-add-word-2
-add-word-2 c = let p = c .before .before .before .before .before .before .before .before .before .before .before .pre in omega arith
+add-word-2 c = let s = c .before .before .before .before .before .before .before .before .before in omega (arith, s .slot-at .ensures, s .before .before .before .pre .1)
 
 word-requires-2 : tie.Need-word-requires-2
-word-requires-2 c κs = let p = c .before .before .before .before .before .before .before .before .before .before .before .pre in omega arith
+word-requires-2 c κs = let s = c .before .before .before .before .before .before .before .before .before in omega (arith, s .slot-at .ensures, s .before .before .before .pre .1)
 
 light-number-requires : tie.Need-light-number-requires
 light-number-requires c κs = search needs
 
 returns : tie.Need-returns
 returns c =
-    let s = c .before .before .before .before .before .before .before .before .before .before .before .before .before in
+    let s = c .before .before .before .before .before .before .before .before .before .before .before .before .before .before in
     let w = words (given (s .args .block .now) (s .args .bytes .now)) in
-    let at = s .args .at in
+    let first = c .before .before .before .before .before .before .before .before .before .before .before in
+    let at = first .slot-at .result in
     light-made (from w at) _ _ _ _ _ _ _ _ _ _
     (c .before .before .before .before .before .before .before .before .before .plain-vector .ensures ∙ vector-first w at)
     (c .before .before .before .before .before .before .before .before .plain-vector2 .ensures ∙ vector-from w at 4)
@@ -81,11 +88,13 @@ returns c =
     (c .before .before .distance-of .ensures)
     (c .light-number .ensures ∙ ap numbered (c .before .word2 .ensures))
     (c .before .before .before .before .before .before .before .before .before .before .word .ensures)
+    ∙ ap (λ (i : ℕ). blockLight (from w i)) (first .slot-at .ensures)
 
 pub light-of-spec : {M : Type 1} → statement M
 light-of-spec =
     tie.close
     (tie.spec
+    slot-at-requires
     add-word
     word-requires
     plain-vector-requires

@@ -2,11 +2,10 @@
 -- Assumes nothing.
 use Prim.Native.Nat.{_+_}
 use native.Mathlib.Omega.{arith}
-use Rattle.sources.specs.Sources.{given}
-use Rattle.block.specs.Formed.{words}
-use Rattle.block.specs.Reading.{blockVector}
-use Rattle.block_reading.proofs.light.Plain.{no-nan}
 use borrow.Author.Needs.{needs}
+use Rattle.sources.specs.Steps.{given}
+use Rattle.block.specs.Block.{words, blockVector}
+use Rattle.block_reading.proofs.light.Plain.{plain-word}
 use Rattle.block_reading.proofs.light.plain_vector.Statement.{statement}
 use Rattle.block_reading.proofs.light.plain_vector.Tie as tie
 
@@ -14,7 +13,7 @@ word-requires : tie.Need-word-requires
 word-requires c κs = search needs
 
 float-from-bits-t8 : tie.Need-float-from-bits-t8
-float-from-bits-t8 c = let s = c .before .before .before .before in no-nan (words (given (s .args .block .now) (s .args .bytes .now))) (s .args .at) _ (s .pre .2 (c .before .if1 .taken)) (omega arith) (c .word .ensures)
+float-from-bits-t8 c = let s = c .before .before .before .before in plain-word (words (given (s .args .block .now) (s .args .bytes .now))) (s .args .at) _ (s .pre .2 (c .before .if1 .taken)) (omega arith) (c .word .ensures)
 
 add-word : tie.Need-add-word
 add-word c = search needs
@@ -23,7 +22,7 @@ word-requires-2 : tie.Need-word-requires-2
 word-requires-2 c κs = search needs
 
 float-from-bits-t11 : tie.Need-float-from-bits-t11
-float-from-bits-t11 c = let s = c .before .before .before .before .before in no-nan (words (given (s .args .block .now) (s .args .bytes .now))) (s .args .at + 1) _ (s .pre .2 (c .before .before .if1 .taken)) (omega arith) (c .word2 .ensures)
+float-from-bits-t11 c = let s = c .before .before .before .before .before in plain-word (words (given (s .args .block .now) (s .args .bytes .now))) (s .args .at + 1) _ (s .pre .2 (c .before .before .if1 .taken)) (omega arith) (c .word2 .ensures)
 
 add-word-2 : tie.Need-add-word-2
 add-word-2 c = search needs
@@ -32,7 +31,7 @@ word-requires-3 : tie.Need-word-requires-3
 word-requires-3 c κs = search needs
 
 float-from-bits-t14 : tie.Need-float-from-bits-t14
-float-from-bits-t14 c = let s = c .before .before .before .before .before .before in no-nan (words (given (s .args .block .now) (s .args .bytes .now))) (s .args .at + 2) _ (s .pre .2 (c .before .before .before .if1 .taken)) (omega arith) (c .word3 .ensures)
+float-from-bits-t14 c = let s = c .before .before .before .before .before .before in plain-word (words (given (s .args .block .now) (s .args .bytes .now))) (s .args .at + 2) _ (s .pre .2 (c .before .before .before .if1 .taken)) (omega arith) (c .word3 .ensures)
 
 vector-of-requires : tie.Need-vector-of-requires
 vector-of-requires c κs = search needs

@@ -1,6 +1,6 @@
 -- `light::vector_of` meets its contract: each component is the float of its word. Assumes nothing.
-use Rattle.block.specs.Reading.{blockVector}
 use borrow.Author.Needs.{needs}
+use Rattle.block.specs.Block.{blockVector}
 use Rattle.block_reading.proofs.light.vector_of.Statement.{statement}
 use Rattle.block_reading.proofs.light.vector_of.Tie as tie
 

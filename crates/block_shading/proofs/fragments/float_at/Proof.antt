@@ -1,5 +1,5 @@
 -- `fragments::float_at` meets its contract: each operation and call is the definition's, in its order. Assumes nothing.
-use Rattle.block_shading.specs.Fragment.{floatAt}
+use Rattle.block_shading.specs.BlockShading.{floatAt}
 use borrow.Author.Needs.{needs}
 use Rattle.block_shading.proofs.fragments.float_at.Statement.{statement}
 use Rattle.block_shading.proofs.fragments.float_at.Tie as tie

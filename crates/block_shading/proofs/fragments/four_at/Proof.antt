@@ -1,5 +1,5 @@
 -- `fragments::four_at` meets its contract: each operation and call is the definition's, in its order. Assumes nothing.
-use Rattle.block_shading.specs.Fragment.{fourAt}
+use Rattle.block_shading.specs.BlockShading.{fourAt}
 use borrow.Author.Needs.{needs}
 use Rattle.block_shading.proofs.fragments.four_at.Statement.{statement}
 use Rattle.block_shading.proofs.fragments.four_at.Tie as tie

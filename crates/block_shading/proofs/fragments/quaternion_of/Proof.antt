@@ -1,5 +1,5 @@
 -- `fragments::quaternion_of` meets its contract: each operation and call is the definition's, in its order. Assumes nothing.
-use Rattle.block_shading.specs.Fragment.{quaternionOf}
+use Rattle.block_shading.specs.BlockShading.{quaternionOf}
 use borrow.Author.Needs.{needs}
 use Rattle.block_shading.proofs.fragments.quaternion_of.Statement.{statement}
 use Rattle.block_shading.proofs.fragments.quaternion_of.Tie as tie

@@ -1,5 +1,5 @@
 -- `fragments::view_of` meets its contract: each operation and call is the definition's, in its order. Assumes nothing.
-use Rattle.block_shading.specs.Fragment.{viewOf}
+use Rattle.block_shading.specs.BlockShading.{viewOf}
 use borrow.Author.Needs.{needs}
 use Rattle.block_shading.proofs.fragments.view_of.Statement.{statement}
 use Rattle.block_shading.proofs.fragments.view_of.Tie as tie

@@ -1,7 +1,7 @@
 -- `slots::frame_of` meets its contract: the texel of the bump's unit is read alone, and the rest is the definition's, in its order. Assumes nothing.
-use Rattle.sources.specs.Sources.{given}
-use Rattle.block.specs.Answers.{bumpUnit}
-use Rattle.shading.specs.Parts.{lightingFrame}
+use Rattle.sources.specs.Steps.{given}
+use Rattle.lighting.specs.Lighting.{bumpUnit}
+use Rattle.shading.specs.Steps.{lightingFrame}
 use Rattle.block_shading.proofs.slots.Texels.{texel}
 use borrow.Author.Needs.{needs}
 use Rattle.block_shading.proofs.slots.frame_of.Statement.{statement}

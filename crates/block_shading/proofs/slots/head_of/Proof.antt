@@ -1,5 +1,5 @@
 -- `slots::head_of` meets its contract: each operation and call is the definition's, in its order. Assumes nothing.
-use Rattle.block_shading.specs.Head.{headOf}
+use Rattle.block_shading.specs.Steps.{headOf}
 use borrow.Author.Needs.{needs}
 use Rattle.block_shading.proofs.slots.head_of.Statement.{statement}
 use Rattle.block_shading.proofs.slots.head_of.Tie as tie

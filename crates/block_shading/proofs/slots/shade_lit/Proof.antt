@@ -2,10 +2,10 @@
 -- has otherwise. Assumes nothing.
 use mathlib.Core.Path.{ap, _∙_}
 use Rattle.lighting.specs.declared.Lighting.{Lighting}
-use Rattle.sources.specs.Sources.{given}
-use Rattle.block.specs.Formed.{words}
+use Rattle.sources.specs.Steps.{given}
+use Rattle.block.specs.Block.{words}
 use Rattle.block_shading.specs.HeadLaws.{head-shades, head-bump, head-shadow, head-count}
-use Rattle.block_shading.specs.Fragment.{quaternionOf, viewOf, texelsOf}
+use Rattle.block_shading.specs.BlockShading.{quaternionOf, viewOf, texelsOf}
 use borrow.Author.Needs.{needs}
 use Rattle.block_shading.proofs.slots.shade_lit.Statement.{statement}
 use Rattle.block_shading.proofs.slots.shade_lit.Tie as tie

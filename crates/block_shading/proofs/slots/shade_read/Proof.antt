@@ -1,8 +1,8 @@
 -- `slots::shade_read` meets its contract: each call is the definition's, in its order, and a lighting in range has texture units of at most 3.
 -- Assumes nothing.
 use Rattle.block.specs.PackedLaws.{range-bump, range-shadow}
-use Rattle.shading.specs.Shade.{shadeOf}
-use Rattle.shading.specs.LawLaws.{shade-law}
+use Rattle.shading.specs.Steps.{shadeOf}
+use Rattle.shading.specs.ShadeLaws.{shade-law}
 use borrow.Author.Needs.{needs}
 use Rattle.block_shading.proofs.slots.shade_read.Statement.{statement}
 use Rattle.block_shading.proofs.slots.shade_read.Tie as tie

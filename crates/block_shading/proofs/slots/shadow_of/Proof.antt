@@ -1,7 +1,7 @@
 -- `slots::shadow_of` meets its contract: the texel of the shadow's unit is read alone, and the rest is the definition's, in its order. Assumes nothing.
-use Rattle.sources.specs.Sources.{given}
-use Rattle.block.specs.Answers.{shadowUnit}
-use Rattle.shading.specs.Parts.{lightingShadow}
+use Rattle.sources.specs.Steps.{given}
+use Rattle.lighting.specs.Lighting.{shadowUnit}
+use Rattle.shading.specs.Steps.{lightingShadow}
 use Rattle.block_shading.proofs.slots.Texels.{texel}
 use borrow.Author.Needs.{needs}
 use Rattle.block_shading.proofs.slots.shadow_of.Statement.{statement}

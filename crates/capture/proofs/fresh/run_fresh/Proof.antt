@@ -2,7 +2,7 @@
 -- as the plain machine does. Assumes nothing.
 use native.Mathlib.Omega.{arith}
 use mathlib.Core.Path.{ap, _∙_}
-use Rattle.printing.specs.Writing.{out, puts}
+use Rattle.printing.specs.Steps.{out, puts}
 use Rattle.capture_check.specs.ContentsLaws.{shaped-end, shaped-gapless}
 use Rattle.capture_calls.specs.RefusalLaws.{not-refused-shaped}
 use Rattle.capture.proofs.fresh.Fresh.{fresh-prints}

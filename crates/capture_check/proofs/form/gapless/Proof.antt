@@ -5,7 +5,7 @@ use mathlib.Core.Path.{_≡_, sym, _∙_}
 use lib.ListN.{length}
 use Rattle.capture_check.specs.Contents.{triples, contentsEnd, gapless}
 use Rattle.capture_check.specs.ContentsLaws.{triples-all, triples-none, lies-end}
-use Rattle.capture_check.proofs.form.Turns.{gapless-go, gapless-stop}
+use Rattle.capture_check.proofs.form.NextBody.{gapless-go, gapless-stop}
 use borrow.Author.Needs.{needs}
 use Rattle.capture_check.proofs.form.gapless.Statement.{statement}
 use Rattle.capture_check.proofs.form.gapless.Tie as tie

@@ -3,7 +3,7 @@ use native.Mathlib.Omega.{arith}
 use borrow.Author.Tests.{le-leb, lt-leb}
 use lib.ListN.{length}
 use Rattle.capture_check.specs.Contents.{shaped, contentsEnd, bodyCount}
-use Rattle.capture_check.proofs.form.Turns.{both-none}
+use Rattle.capture_check.proofs.form.NextBody.{both-none}
 use borrow.Author.Needs.{needs}
 use Rattle.capture_check.proofs.form.shaped.Statement.{statement}
 use Rattle.capture_check.proofs.form.shaped.Tie as tie

@@ -4,7 +4,7 @@ use native.Mathlib.Omega.{arith}
 use mathlib.Core.Path.{_≡_, refl, sym, _∙_}
 use lib.ListN.{length, drop}
 use Rattle.capture_check.specs.Contents.{registersIn}
-use Rattle.capture_check.proofs.registers.Turns.{registers-go, registers-stop, registers-none}
+use Rattle.capture_check.proofs.registers.NextRegister.{registers-go, registers-stop, registers-none}
 use borrow.Author.Needs.{needs}
 use Rattle.capture_check.proofs.registers.registers_in.Statement.{statement}
 use Rattle.capture_check.proofs.registers.registers_in.Tie as tie

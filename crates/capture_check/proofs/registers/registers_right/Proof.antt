@@ -9,7 +9,7 @@ use lib.ListN.{length}
 use Rattle.printing.specs.PieceLaws.{part-is}
 use Rattle.capture_check.specs.Contents.{triples, contentsEnd, gapless, registersRight}
 use Rattle.capture_check.specs.ContentsLaws.{triples-all, triples-none, body-end, body-rest}
-use Rattle.capture_check.proofs.registers.Turns.{right-go, right-stop}
+use Rattle.capture_check.proofs.registers.NextRegister.{right-go, right-stop}
 use borrow.Author.Needs.{needs}
 use Rattle.capture_check.proofs.registers.registers_right.Statement.{statement}
 use Rattle.capture_check.proofs.registers.registers_right.Tie as tie

@@ -6,7 +6,7 @@ use mathlib.Core.Path.{_≡_, refl, sym, ap, _∙_}
 use lib.ListN.{length, drop, length-set}
 use Rattle.sources.specs.Sources.{wordsOf}
 use Rattle.sources.specs.SourcesLaws.{length-words}
-use Rattle.printing.specs.Writing.{out, puts}
+use Rattle.printing.specs.Steps.{out, puts}
 use Rattle.printing.specs.WritingLaws.{puts-next}
 use Rattle.printing.specs.PieceLaws.{drop-none}
 use Rattle.capture_check.proofs.words.Given.{given-none}

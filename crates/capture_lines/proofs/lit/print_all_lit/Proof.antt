@@ -4,10 +4,11 @@ use Prim.Native.Nat.{_≤_, _+_, _-_, _*_, _/_}
 use native.Mathlib.Omega.{arith}
 use mathlib.Core.Path.{_≡_, refl, _∙_}
 use lib.ListN.{length, drop, length-take, length-drop}
-use Rattle.printing.specs.Writing.{puts}
-use Rattle.printing.specs.Writing as Writing
+use Rattle.printing.specs.Steps.{puts}
+use Rattle.printing.specs.Steps as Writing
 use Rattle.printing.specs.PieceLaws.{part-is}
-use Rattle.capture_lines.specs.Lines.{litShades, fragmentLines}
+use Rattle.capture_lines.specs.Lines.{fragmentLines}
+use Rattle.capture_lines.specs.Steps.{litShades}
 use Rattle.capture_lines.specs.LinesLaws.{lines-all, lines-none, lines-turn}
 use borrow.Author.Needs.{needs}
 use Rattle.capture_lines.proofs.lit.print_all_lit.Statement.{statement}

@@ -1,7 +1,7 @@
 -- `bump_shadow::bump` meets its contract. Each arm knows the two bits that say which kind, and the rest is what `bits` and `flag` ensure. Assumes nothing.
 use mathlib.Core.Path.{sym}
 use borrow.Author.Tests.{ne-eqb}
-use Rattle.decoding.specs.Settings.{bumpOf}
+use Rattle.decoding.specs.Read.{bump}
 use borrow.Author.Needs.{needs}
 use Rattle.decoding.proofs.bump_shadow.bump.Statement.{statement}
 use Rattle.decoding.proofs.bump_shadow.bump.Tie as tie
@@ -25,15 +25,15 @@ cast-t9 : tie.Need-cast-t9
 cast-t9 c = search needs
 
 returns : tie.Need-returns
-unfolding bumpOf
+unfolding bump
 returns c = simp (sym (c .before .before .before .bits .ensures), c .before .before .match .keys1, c .before .bits2 .ensures, c .flag .ensures)
 
 returns-2 : tie.Need-returns-2
-unfolding bumpOf
+unfolding bump
 returns-2 c = simp (sym (c .before .before .bits .ensures), c .before .match .keys2, c .bits3 .ensures)
 
 returns-3 : tie.Need-returns-3
-unfolding bumpOf
+unfolding bump
 returns-3 c = simp (sym (c .before .bits .ensures), ne-eqb _ _ (c .match .rest .0 .1), ne-eqb _ _ (c .match .rest .1))
 
 pub bump-spec : {M : Type 1} → statement M

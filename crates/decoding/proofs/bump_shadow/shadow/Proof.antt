@@ -1,6 +1,6 @@
 -- `bump_shadow::shadow` meets its contract. The test is bit 0, and the rest is what `bits` and `flag` ensure. Assumes nothing.
 use mathlib.Core.Path.{sym}
-use Rattle.decoding.specs.Settings.{shadowOf}
+use Rattle.decoding.specs.Read.{shadow}
 use borrow.Author.Needs.{needs}
 use Rattle.decoding.proofs.bump_shadow.shadow.Statement.{statement}
 use Rattle.decoding.proofs.bump_shadow.shadow.Tie as tie
@@ -27,7 +27,7 @@ flag-requires-5 : tie.Need-flag-requires-5
 flag-requires-5 c κs = search needs
 
 returns : tie.Need-returns
-unfolding shadowOf
+unfolding shadow
 returns c =
     simp (
       sym (c .before .before .before .before .before .before .flag .ensures),
@@ -40,7 +40,7 @@ returns c =
     )
 
 returns-2 : tie.Need-returns-2
-unfolding shadowOf
+unfolding shadow
 returns-2 c = simp (sym (c .before .flag .ensures), c .if1 .left)
 
 pub shadow-spec : {M : Type 1} → statement M

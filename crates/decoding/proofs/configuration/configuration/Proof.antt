@@ -1,5 +1,5 @@
 -- `configuration::configuration` meets its contract. It makes the definition's own calls, in its order. Assumes nothing.
-use Rattle.decoding.specs.Supported.{configOf}
+use Rattle.decoding.specs.Read.{config}
 use borrow.Author.Needs.{needs}
 use Rattle.decoding.proofs.configuration.configuration.Statement.{statement}
 use Rattle.decoding.proofs.configuration.configuration.Tie as tie
@@ -11,7 +11,7 @@ bits-requires : tie.Need-bits-requires
 bits-requires c κs = search needs
 
 returns : tie.Need-returns
-unfolding configOf
+unfolding config
 returns c = rw (c .bits .ensures, c .before .register .ensures)
 
 pub configuration-spec : {M : Type 1} → statement M

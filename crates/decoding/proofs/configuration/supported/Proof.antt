@@ -5,68 +5,68 @@ use mathlib.Core.Logic.{inl, inr, ⊎-elim}
 use lib.Dec.{eqb}
 use native.Mathlib.Omega.{arith}
 use borrow.Author.Tests.{ne-eqb}
-use Rattle.decoding.specs.Supported.{supportedBy}
+use Rattle.decoding.specs.Read.{supported}
 use Rattle.decoding.proofs.configuration.Ranges.{one-of-two}
 use Rattle.decoding.proofs.configuration.supported.Statement.{statement}
 use Rattle.decoding.proofs.configuration.supported.Tie as tie
 
 returns : tie.Need-returns
-unfolding supportedBy
+unfolding supported
 returns c = rw (c .match .keys1)
 
 returns-2 : tie.Need-returns-2
-unfolding supportedBy
+unfolding supported
 returns-2 c =
     rw (c .before .before .match .keys2)
     (simp (ne-eqb (c .before .before .before .args .config) 0 (λ e. omega arith), ne-eqb (c .before .before .before .args .config) 1 (λ e. omega arith), ne-eqb (c .before .before .before .args .config) 5 (c .before .match2 .rest .1)))
 
 returns-3 : tie.Need-returns-3
-unfolding supportedBy
+unfolding supported
 returns-3 c = rw (c .before .match .keys2, c .match2 .keys1)
 
 returns-4 : tie.Need-returns-4
-unfolding supportedBy
+unfolding supported
 returns-4 c =
     rw (c .before .before .match .keys2)
     (simp (one-of-two 0 (c .before .before .before .args .config) (omega arith) (omega arith)))
 
 returns-5 : tie.Need-returns-5
-unfolding supportedBy
+unfolding supported
 returns-5 c =
     rw (c .before .before .match .keys3)
     (simp (one-of-two 2 (c .before .before .before .args .config) (omega arith) (omega arith)))
 
 returns-6 : tie.Need-returns-6
-unfolding supportedBy
+unfolding supported
 returns-6 c =
     rw (c .before .match .keys3)
     (simp (ne-eqb (c .before .before .args .config) 2 (λ e. omega arith), ne-eqb (c .before .before .args .config) 3 (λ e. omega arith)))
 
 returns-7 : tie.Need-returns-7
-unfolding supportedBy
+unfolding supported
 returns-7 c =
     rw (c .before .before .match .keys3)
     (simp (ne-eqb (c .before .before .before .args .config) 2 (λ e. omega arith), ne-eqb (c .before .before .before .args .config) 3 (λ e. omega arith)))
 
 returns-8 : tie.Need-returns-8
-unfolding supportedBy
+unfolding supported
 returns-8 c =
     rw (c .before .match .keys4)
     (⊎-elim (λ e. rw e) (⊎-elim (λ e. rw e) (λ e. rw e)) (c .match3 .keys1))
 
 returns-9 : tie.Need-returns-9
-unfolding supportedBy
+unfolding supported
 returns-9 c =
     rw (c .before .match .keys4)
     (simp (ne-eqb (c .before .before .args .config) 0 (λ e. c .match3 .rest .1 (inl e)), ne-eqb (c .before .before .args .config) 2 (λ e. c .match3 .rest .1 (inr (inl e))), ne-eqb (c .before .before .args .config) 4 (λ e. c .match3 .rest .1 (inr (inr e)))))
 
 returns-10 : tie.Need-returns-10
-unfolding supportedBy
+unfolding supported
 returns-10 c = rw (c .match .keys5)
 
 -- the last arm: none of the tables that the arms above name
-other : (c : tie.At-match-rest) → supportedBy (c .before .args .config) (c .before .args .table) ≡ (eqb (c .before .args .config) 4 || eqb (c .before .args .config) 5 || eqb (c .before .args .config) 8)
-unfolding supportedBy
+other : (c : tie.At-match-rest) → supported (c .before .args .config) (c .before .args .table) ≡ (eqb (c .before .args .config) 4 || eqb (c .before .args .config) 5 || eqb (c .before .args .config) 8)
+unfolding supported
 other c =
     rw (
       ne-eqb (c .before .args .table) 0 (c .match .rest .0 .0 .0 .0 .1),

@@ -1,5 +1,5 @@
 -- `light_fields::light_color` meets its contract. It makes the definition's own calls, in its order. Assumes nothing.
-use Rattle.decoding.specs.LightFields.{lightColour}
+use Rattle.decoding.specs.Steps.{lightColour}
 use borrow.Author.Needs.{needs}
 use Rattle.decoding.proofs.light_fields.light_color.Statement.{statement}
 use Rattle.decoding.proofs.light_fields.light_color.Tie as tie

@@ -1,5 +1,5 @@
 -- `light_fields::light_register` meets its contract. It makes the definition's own calls, in its order. Assumes nothing.
-use Rattle.decoding.specs.LightFields.{lightRegister}
+use Rattle.decoding.specs.Steps.{lightRegister}
 use borrow.Author.Needs.{needs}
 use Rattle.decoding.proofs.light_fields.light_register.Statement.{statement}
 use Rattle.decoding.proofs.light_fields.light_register.Tie as tie

@@ -1,5 +1,5 @@
 -- `light_fields::position` meets its contract. It makes the definition's own calls, in its order. Assumes nothing.
-use Rattle.decoding.specs.LightFields.{positionOf}
+use Rattle.decoding.specs.Steps.{positionOf}
 use borrow.Author.Needs.{needs}
 use Rattle.decoding.proofs.light_fields.position.Statement.{statement}
 use Rattle.decoding.proofs.light_fields.position.Tie as tie

@@ -1,5 +1,5 @@
 -- `light_fields::spot` meets its contract. It makes the definition's own calls, in its order. Assumes nothing.
-use Rattle.decoding.specs.LightFields.{spotOf}
+use Rattle.decoding.specs.Steps.{spotOf}
 use borrow.Author.Needs.{needs}
 use Rattle.decoding.proofs.light_fields.spot.Statement.{statement}
 use Rattle.decoding.proofs.light_fields.spot.Tie as tie

@@ -1,6 +1,6 @@
 -- `lights::distance` meets its contract. The test is the bit of the light's number, and what is scaled is what `float20` ensures. Assumes nothing.
 use mathlib.Core.Path.{sym}
-use Rattle.decoding.specs.Lights.{distanceOf}
+use Rattle.decoding.specs.Steps.{distanceOf}
 use borrow.Author.Needs.{needs}
 use Rattle.decoding.proofs.lights.distance.Statement.{statement}
 use Rattle.decoding.proofs.lights.distance.Tie as tie

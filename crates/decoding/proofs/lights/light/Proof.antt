@@ -1,5 +1,5 @@
 -- `lights::light` meets its contract. Each field is what the call that makes it ensures. Assumes nothing.
-use Rattle.decoding.specs.Lights.{lightOf}
+use Rattle.decoding.specs.Steps.{lightOf}
 use borrow.Author.Needs.{needs}
 use Rattle.decoding.proofs.lights.light.Statement.{statement}
 use Rattle.decoding.proofs.lights.light.Tie as tie

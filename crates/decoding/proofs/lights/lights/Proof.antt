@@ -1,5 +1,5 @@
 -- `lights::lights` meets its contract. Each of the eight is what `slot_light` ensures of its slot. Assumes nothing.
-use Rattle.decoding.specs.Lights.{lightsOf}
+use Rattle.decoding.specs.Steps.{lightsOf}
 use borrow.Author.Needs.{needs}
 use Rattle.decoding.proofs.lights.lights.Statement.{statement}
 use Rattle.decoding.proofs.lights.lights.Tie as tie

@@ -1,5 +1,5 @@
 -- `lights::slot_light` meets its contract. The test is the count's, and the light is that of the slot's number, which is below 8, or the blank one. Assumes nothing.
-use Rattle.decoding.specs.Lights.{slotLight}
+use Rattle.decoding.specs.Steps.{slotLight}
 use borrow.Author.Needs.{needs}
 use borrow.Author.Tests.{lt-ltb, le-ltb}
 use Rattle.decoding.specs.LightLaws.{number-lt}

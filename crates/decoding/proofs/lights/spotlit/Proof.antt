@@ -1,5 +1,5 @@
 -- `lights::spotlit` meets its contract. It makes the definition's own calls, in its order. Assumes nothing.
-use Rattle.decoding.specs.Lights.{spotlitOf}
+use Rattle.decoding.specs.Steps.{spotlitOf}
 use borrow.Author.Needs.{needs}
 use Rattle.decoding.proofs.lights.spotlit.Statement.{statement}
 use Rattle.decoding.proofs.lights.spotlit.Tie as tie

@@ -1,5 +1,5 @@
 -- `needs::half_input` meets its contract. It makes the definition's own calls, in its order. Assumes nothing.
-use Rattle.decoding.specs.Needs.{halfInput}
+use Rattle.decoding.specs.Steps.{halfInput}
 use borrow.Author.Needs.{needs}
 use Rattle.decoding.proofs.needs.half_input.Statement.{statement}
 use Rattle.decoding.proofs.needs.half_input.Tie as tie

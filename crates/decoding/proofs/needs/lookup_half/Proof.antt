@@ -1,5 +1,5 @@
 -- `needs::lookup_half` meets its contract. It goes by the definition's own cases. Assumes nothing.
-use Rattle.decoding.specs.Needs.{lookupHalf}
+use Rattle.decoding.specs.Steps.{lookupHalf}
 use borrow.Author.Needs.{needs}
 use Rattle.decoding.proofs.needs.lookup_half.Statement.{statement}
 use Rattle.decoding.proofs.needs.lookup_half.Tie as tie

@@ -1,5 +1,5 @@
 -- `needs::lookup_view` meets its contract. It goes by the definition's own cases. Assumes nothing.
-use Rattle.decoding.specs.Needs.{lookupView}
+use Rattle.decoding.specs.Steps.{lookupView}
 use borrow.Author.Needs.{needs}
 use Rattle.decoding.proofs.needs.lookup_view.Statement.{statement}
 use Rattle.decoding.proofs.needs.lookup_view.Tie as tie

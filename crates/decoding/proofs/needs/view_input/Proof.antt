@@ -1,5 +1,5 @@
 -- `needs::view_input` meets its contract. It makes the definition's own calls, in its order. Assumes nothing.
-use Rattle.decoding.specs.Needs.{viewInput}
+use Rattle.decoding.specs.Steps.{viewInput}
 use borrow.Author.Needs.{needs}
 use Rattle.decoding.proofs.needs.view_input.Statement.{statement}
 use Rattle.decoding.proofs.needs.view_input.Tie as tie

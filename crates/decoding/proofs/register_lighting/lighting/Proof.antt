@@ -1,6 +1,5 @@
 -- `register_lighting::lighting` meets its contract. Each field is what the call that makes it ensures, and the lights on are the first of the eight. Assumes nothing.
-use Rattle.decoding.specs.Needs.{litLights, needsHalf, needsView}
-use Rattle.decoding.specs.Lighting.{lightingOf}
+use Rattle.decoding.specs.Steps.{litLights, needsHalf, needsView, lightingOf}
 use Rattle.decoding.specs.LightLaws.{count-high}
 use borrow.Author.Needs.{needs}
 use Rattle.decoding.proofs.register_lighting.lighting.Statement.{statement}

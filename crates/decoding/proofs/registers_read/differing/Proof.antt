@@ -4,7 +4,7 @@ use Prim.Native.Nat.{ℕ, _+_, _≤_, _-_}
 use native.Mathlib.Omega.{arith}
 use mathlib.Core.Path.{_≡_, refl, ap, _∙_}
 use borrow.Author.Needs.{needs}
-use Rattle.decoding.specs.Comparing.{differences}
+use Rattle.decoding.specs.Steps.{differences}
 use Rattle.decoding.specs.ComparingLaws.{differences-few, differences-more}
 use Rattle.decoding.proofs.registers_read.differing.Statement.{statement}
 use Rattle.decoding.proofs.registers_read.differing.Tie as tie

@@ -1,5 +1,5 @@
 -- `slots::light_count` meets its contract. It makes the definition's own calls, in its order. Assumes nothing.
-use Rattle.decoding.specs.Slots.{countOf}
+use Rattle.decoding.specs.Read.{lightCount}
 use borrow.Author.Needs.{needs}
 use Rattle.decoding.proofs.slots.light_count.Statement.{statement}
 use Rattle.decoding.proofs.slots.light_count.Tie as tie
@@ -17,7 +17,7 @@ add-result : tie.Need-add-result
 add-result c = search needs
 
 returns : tie.Need-returns
-unfolding countOf
+unfolding lightCount
 returns c = simp (c .before .register .ensures, c .bits .ensures)
 
 pub light-count-spec : {M : Type 1} → statement M

@@ -1,5 +1,5 @@
 -- `slots::light_number` meets its contract. It makes the definition's own calls, in its order. Assumes nothing.
-use Rattle.decoding.specs.Slots.{lightNumberOf}
+use Rattle.decoding.specs.Read.{lightNumber}
 use borrow.Author.Needs.{needs}
 use Rattle.decoding.proofs.slots.light_number.Statement.{statement}
 use Rattle.decoding.proofs.slots.light_number.Tie as tie
@@ -20,7 +20,7 @@ cast-t7 : tie.Need-cast-t7
 cast-t7 c = search needs
 
 returns : tie.Need-returns
-unfolding lightNumberOf
+unfolding lightNumber
 returns c = simp (c .before .before .register .ensures, c .bits .ensures)
 
 pub light-number-spec : {M : Type 1} → statement M

@@ -1,5 +1,5 @@
 -- `table_lookups::lookup` meets its contract. It makes the definition's own calls, in its order. Assumes nothing.
-use Rattle.decoding.specs.Tables.{lookupOf}
+use Rattle.decoding.specs.Read.{lookup}
 use borrow.Author.Needs.{needs}
 use Rattle.decoding.proofs.table_lookups.lookup.Statement.{statement}
 use Rattle.decoding.proofs.table_lookups.lookup.Tie as tie
@@ -38,7 +38,7 @@ scale-requires : tie.Need-scale-requires
 scale-requires c κs = search needs
 
 returns : tie.Need-returns
-unfolding lookupOf
+unfolding lookup
 returns c =
     simp (
       c .before .before .before .before .before .before .register .ensures,

@@ -1,5 +1,5 @@
 -- `table_lookups::lookups` meets its contract. Each field is what `table` or `lookup` ensures. Assumes nothing.
-use Rattle.decoding.specs.Tables.{lookupsOf}
+use Rattle.decoding.specs.Steps.{lookupsOf}
 use borrow.Author.Needs.{needs}
 use Rattle.decoding.proofs.table_lookups.lookups.Statement.{statement}
 use Rattle.decoding.proofs.table_lookups.lookups.Tie as tie

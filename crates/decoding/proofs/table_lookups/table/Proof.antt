@@ -1,6 +1,6 @@
 -- `table_lookups::table` meets its contract. The test is the definition's, and what is present is what `lookup` ensures. Assumes nothing.
 use mathlib.Core.Path.{sym}
-use Rattle.decoding.specs.Tables.{lookupIf}
+use Rattle.decoding.specs.Read.{table}
 use borrow.Author.Needs.{needs}
 use Rattle.decoding.proofs.table_lookups.table.Statement.{statement}
 use Rattle.decoding.proofs.table_lookups.table.Tie as tie
@@ -21,7 +21,7 @@ lookup-requires : tie.Need-lookup-requires
 lookup-requires c κs = search needs
 
 returns : tie.Need-returns
-unfolding lookupIf
+unfolding table
 returns c =
     simp (
       sym (c .before .before .before .before .before .register .ensures),
@@ -33,7 +33,7 @@ returns c =
     )
 
 returns-2 : tie.Need-returns-2
-unfolding lookupIf
+unfolding table
 returns-2 c =
     simp (
       sym (c .before .before .before .before .register .ensures),

@@ -4,7 +4,7 @@ use mathlib.Core.Path.{_≡_}
 use native.Mathlib.Omega.{arith}
 use borrow.Author.Needs.{needs}
 use borrow.Author.Tests.{eq-eqb, ne-eqb}
-use Rattle.fields.specs.ShortFloat.{shortExponent}
+use Rattle.fields.specs.Fields.{shortExponent}
 use Rattle.fields.specs.ShortFloatLaws.{half-power, half-power-le, exponent-lt}
 use Rattle.fields.proofs.short_floats.pica_exponent.Statement.{statement}
 use Rattle.fields.proofs.short_floats.pica_exponent.Tie as tie

@@ -1,6 +1,6 @@
 -- `short_floats::pica_float` meets its contract: it is the float of the definition's word. Assumes nothing.
 use borrow.Author.Needs.{needs}
-use Rattle.fields.specs.ShortFloat.{shortFloat}
+use Rattle.fields.specs.Fields.{shortFloat}
 use Rattle.fields.proofs.short_floats.pica_float.Statement.{statement}
 use Rattle.fields.proofs.short_floats.pica_float.Tie as tie
 

@@ -5,7 +5,7 @@ use native.Mathlib.Omega.{arith}
 use borrow.Author.Needs.{needs}
 use borrow.Author.Tests.{ne-eqb}
 use lib.Pow.{pow-pos}
-use Rattle.fields.specs.ShortFloat.{shortSign, shortWord}
+use Rattle.fields.specs.Fields.{shortSign, shortWord}
 use Rattle.fields.specs.ShortFloatLaws.{mantissa-lt}
 use Rattle.fields.proofs.short_floats.pica_word.Statement.{statement}
 use Rattle.fields.proofs.short_floats.pica_word.Tie as tie

@@ -2,7 +2,7 @@
 use native.Mathlib.Omega.{arith}
 use borrow.Author.Tests.{eq-eqb, ne-eqb}
 use lib.Ieee.{ofInt, ofBits}
-use Rattle.fields.specs.Upload.{uploadStep, uploadMagnitude}
+use Rattle.fields.specs.Fields.{uploadStep, uploadMagnitude}
 use Rattle.binary32.specs.CastLaws.{exact}
 use Rattle.fields.proofs.upload.upload_step.Statement.{statement}
 use Rattle.fields.proofs.upload.upload_step.Tie as tie

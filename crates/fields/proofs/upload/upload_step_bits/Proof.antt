@@ -1,6 +1,6 @@
 -- `upload::upload_step_bits` meets its contract: the step is no NaN, so its pattern may be taken. Assumes nothing.
 use borrow.Author.Needs.{needs}
-use Rattle.fields.specs.Upload.{uploadStepBits}
+use Rattle.fields.specs.Fields.{uploadStepBits}
 use Rattle.fields.specs.UploadLaws.{step-number}
 use Rattle.fields.proofs.upload.upload_step_bits.Statement.{statement}
 use Rattle.fields.proofs.upload.upload_step_bits.Tie as tie

@@ -2,7 +2,7 @@
 use mathlib.Core.Path.{refl}
 use native.Mathlib.Omega.{arith}
 use lib.Ieee.{ofInt, ofBits}
-use Rattle.fields.specs.Upload.{uploadValue}
+use Rattle.fields.specs.Fields.{uploadValue}
 use Rattle.binary32.specs.CastLaws.{exact}
 use Rattle.fields.proofs.upload.upload_value.Statement.{statement}
 use Rattle.fields.proofs.upload.upload_value.Tie as tie

@@ -1,6 +1,6 @@
 -- `upload::upload_value_bits` meets its contract: the value is no NaN, so its pattern may be taken. Assumes nothing.
 use borrow.Author.Needs.{needs}
-use Rattle.fields.specs.Upload.{uploadValueBits}
+use Rattle.fields.specs.Fields.{uploadValueBits}
 use Rattle.fields.specs.UploadLaws.{value-number}
 use Rattle.fields.proofs.upload.upload_value_bits.Statement.{statement}
 use Rattle.fields.proofs.upload.upload_value_bits.Tie as tie

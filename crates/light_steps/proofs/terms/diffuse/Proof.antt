@@ -1,5 +1,5 @@
 -- `terms::diffuse` meets its contract: each operation and call is the definition's, in its order. Assumes nothing.
-use Rattle.light_steps.specs.Terms.{diffuseOf}
+use Rattle.light_steps.specs.Steps.{diffuseOf}
 use mathlib.Core.Path.{refl}
 use borrow.Author.Needs.{needs}
 use Rattle.light_steps.proofs.terms.diffuse.Statement.{statement}

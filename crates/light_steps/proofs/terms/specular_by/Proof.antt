@@ -1,5 +1,5 @@
 -- `terms::specular_by` meets its contract: each operation and call is the definition's, in its order. Assumes nothing.
-use Rattle.light_steps.specs.Terms.{specularBy}
+use Rattle.light_steps.specs.Steps.{specularBy}
 use mathlib.Core.Path.{refl}
 use borrow.Author.Needs.{needs}
 use Rattle.light_steps.proofs.terms.specular_by.Statement.{statement}

@@ -1,5 +1,5 @@
 -- `terms::times_if` meets its contract: each operation and call is the definition's, in its order. Assumes nothing.
-use Rattle.light_steps.specs.Terms.{timesIf}
+use Rattle.light_steps.specs.Steps.{timesIf}
 use borrow.Author.Needs.{needs}
 use Rattle.light_steps.proofs.terms.times_if.Statement.{statement}
 use Rattle.light_steps.proofs.terms.times_if.Tie as tie

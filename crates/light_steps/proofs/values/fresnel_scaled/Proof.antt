@@ -1,5 +1,5 @@
 -- `values::fresnel_scaled` meets its contract: each operation and call is the definition's, in its order. Assumes nothing.
-use Rattle.light_steps.specs.Values.{fresnelScaled}
+use Rattle.light_steps.specs.Steps.{fresnelScaled}
 use borrow.Author.Needs.{needs}
 use Rattle.light_steps.proofs.values.fresnel_scaled.Statement.{statement}
 use Rattle.light_steps.proofs.values.fresnel_scaled.Tie as tie

@@ -1,5 +1,5 @@
 -- `values::present` meets its contract: each operation and call is the definition's, in its order. Assumes nothing.
-use Rattle.light_steps.specs.Values.{present}
+use Rattle.light_steps.specs.Steps.{present}
 use borrow.Author.Needs.{needs}
 use Rattle.light_steps.proofs.values.present.Statement.{statement}
 use Rattle.light_steps.proofs.values.present.Tie as tie

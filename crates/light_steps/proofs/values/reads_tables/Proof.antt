@@ -1,5 +1,5 @@
 -- `values::reads_tables` meets its contract: each operation and call is the definition's, in its order. Assumes nothing.
-use Rattle.light_steps.specs.Values.{readsTables}
+use Rattle.light_steps.specs.Steps.{readsTables}
 use borrow.Author.Needs.{needs}
 use Rattle.light_steps.proofs.values.reads_tables.Statement.{statement}
 use Rattle.light_steps.proofs.values.reads_tables.Tie as tie

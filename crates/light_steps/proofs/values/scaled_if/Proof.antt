@@ -1,5 +1,5 @@
 -- `values::scaled_if` meets its contract: each operation and call is the definition's, in its order. Assumes nothing.
-use Rattle.light_steps.specs.Values.{scaledIf}
+use Rattle.light_steps.specs.Steps.{scaledIf}
 use borrow.Author.Needs.{needs}
 use Rattle.light_steps.proofs.values.scaled_if.Statement.{statement}
 use Rattle.light_steps.proofs.values.scaled_if.Tie as tie

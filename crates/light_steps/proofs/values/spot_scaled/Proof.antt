@@ -1,5 +1,5 @@
 -- `values::spot_scaled` meets its contract: each operation and call is the definition's, in its order. Assumes nothing.
-use Rattle.light_steps.specs.Values.{spotScaled}
+use Rattle.light_steps.specs.Steps.{spotScaled}
 use Rattle.light_steps.proofs.values.spot_scaled.Statement.{statement}
 use Rattle.light_steps.proofs.values.spot_scaled.Tie as tie
 

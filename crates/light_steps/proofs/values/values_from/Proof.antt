@@ -1,5 +1,5 @@
 -- `values::values_from` meets its contract: each operation and call is the definition's, in its order. Assumes nothing.
-use Rattle.light_steps.specs.Values.{valuesFrom}
+use Rattle.light_steps.specs.Steps.{valuesFrom}
 use borrow.Author.Needs.{needs}
 use Rattle.light_steps.proofs.values.values_from.Statement.{statement}
 use Rattle.light_steps.proofs.values.values_from.Tie as tie

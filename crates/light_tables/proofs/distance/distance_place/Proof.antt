@@ -1,5 +1,5 @@
 -- `distance::distance_place` meets its contract: each operation and call is the definition's, in its order. Assumes nothing.
-use Rattle.light_tables.specs.Distance.{distancePlace}
+use Rattle.light_tables.specs.Steps.{distancePlace}
 use borrow.Author.Needs.{needs}
 use Rattle.light_tables.proofs.distance.distance_place.Statement.{statement}
 use Rattle.light_tables.proofs.distance.distance_place.Tie as tie

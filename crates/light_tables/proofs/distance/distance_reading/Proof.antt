@@ -1,5 +1,5 @@
 -- `distance::distance_reading` meets its contract: each operation and call is the definition's, in its order. Assumes nothing.
-use Rattle.light_tables.specs.Distance.{distanceReadingBy}
+use Rattle.light_tables.specs.Steps.{distanceReadingBy}
 use borrow.Author.Needs.{needs}
 use Rattle.light_tables.proofs.distance.distance_reading.Statement.{statement}
 use Rattle.light_tables.proofs.distance.distance_reading.Tie as tie

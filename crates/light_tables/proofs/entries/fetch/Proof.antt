@@ -4,9 +4,8 @@ use Prim.Native.Nat.{ℕ, _+_}
 use native.Mathlib.Omega.{arith}
 use mathlib.Core.Path.{_∙_, refl}
 use lib.ListN.{List·getD-eq-default}
-use Rattle.sources.specs.Sources.{given}
-use Rattle.tables.specs.Upload.{entryPlace}
-use Rattle.tables.specs.Lookup.{tableLookup}
+use Rattle.sources.specs.Steps.{given}
+use Rattle.tables.specs.Tables.{entryPlace, tableLookup}
 use borrow.Author.Needs.{needs}
 use Rattle.light_tables.proofs.entries.fetch.Statement.{statement}
 use Rattle.light_tables.proofs.entries.fetch.Tie as tie

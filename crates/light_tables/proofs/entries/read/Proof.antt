@@ -1,5 +1,5 @@
 -- `entries::read` meets its contract: each operation and call is the definition's, in its order. Assumes nothing.
-use Rattle.light_tables.specs.Entries.{readValue}
+use Rattle.light_tables.specs.Steps.{readValue}
 use borrow.Author.Needs.{needs}
 use Rattle.light_tables.proofs.entries.read.Statement.{statement}
 use Rattle.light_tables.proofs.entries.read.Tie as tie

@@ -1,5 +1,5 @@
 -- `entries::read_all` meets its contract: each operation and call is the definition's, in its order. Assumes nothing.
-use Rattle.light_tables.specs.Entries.{readAll}
+use Rattle.light_tables.specs.Steps.{readAll}
 use borrow.Author.Needs.{needs}
 use Rattle.light_tables.proofs.entries.read_all.Statement.{statement}
 use Rattle.light_tables.proofs.entries.read_all.Tie as tie

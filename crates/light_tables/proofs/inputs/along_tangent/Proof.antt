@@ -1,5 +1,5 @@
 -- `inputs::along_tangent` meets its contract: each operation and call is the definition's, in its order. Assumes nothing.
-use Rattle.light_tables.specs.Inputs.{alongTangent}
+use Rattle.light_tables.specs.Steps.{alongTangent}
 use borrow.Author.Tests.{ne-eqb}
 use borrow.Author.Needs.{needs}
 use Rattle.light_tables.proofs.inputs.along_tangent.Statement.{statement}

@@ -1,5 +1,5 @@
 -- `inputs::inputs_of` meets its contract: each operation and call is the definition's, in its order. Assumes nothing.
-use Rattle.light_tables.specs.Inputs.{inputsOf, inputsBy}
+use Rattle.light_tables.specs.Steps.{inputsOf, inputsBy}
 use borrow.Author.Needs.{needs}
 use Rattle.light_tables.proofs.inputs.inputs_of.Statement.{statement}
 use Rattle.light_tables.proofs.inputs.inputs_of.Tie as tie

@@ -1,5 +1,5 @@
 -- `light::half` meets its contract: each operation and call is the definition's, in its order. Assumes nothing.
-use Rattle.light_tables.specs.Toward.{halfOf}
+use Rattle.light_tables.specs.Steps.{halfOf}
 use borrow.Author.Needs.{needs}
 use Rattle.light_tables.proofs.light.half.Statement.{statement}
 use Rattle.light_tables.proofs.light.half.Tie as tie

@@ -1,5 +1,5 @@
 -- `places::input_of` meets its contract: each operation and call is the definition's, in its order. Assumes nothing.
-use Rattle.light_tables.specs.Places.{inputOf}
+use Rattle.light_tables.specs.Steps.{inputOf}
 use mathlib.Core.Path.{sym}
 use lib.ListN.{List·getD-eq-default}
 use Rattle.light_tables.proofs.places.Picks.{any-default}

@@ -1,5 +1,5 @@
 -- `places::place_of` meets its contract: each operation and call is the definition's, in its order. Assumes nothing.
-use Rattle.light_tables.specs.Places.{placeOf}
+use Rattle.light_tables.specs.Steps.{placeOf}
 use borrow.Author.Needs.{needs}
 use Rattle.light_tables.proofs.places.place_of.Statement.{statement}
 use Rattle.light_tables.proofs.places.place_of.Tie as tie

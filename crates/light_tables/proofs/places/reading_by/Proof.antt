@@ -1,5 +1,5 @@
 -- `places::reading_by` meets its contract: each operation and call is the definition's, in its order. Assumes nothing.
-use Rattle.light_tables.specs.Places.{readingBy}
+use Rattle.light_tables.specs.Steps.{readingBy}
 use borrow.Author.Needs.{needs}
 use Rattle.light_tables.proofs.places.reading_by.Statement.{statement}
 use Rattle.light_tables.proofs.places.reading_by.Tie as tie

@@ -1,5 +1,5 @@
 -- `places::reading_if` meets its contract: each operation and call is the definition's, in its order. Assumes nothing.
-use Rattle.light_tables.specs.Places.{readingIf}
+use Rattle.light_tables.specs.Steps.{readingIf}
 use borrow.Author.Needs.{needs}
 use Rattle.light_tables.proofs.places.reading_if.Statement.{statement}
 use Rattle.light_tables.proofs.places.reading_if.Tie as tie

@@ -1,5 +1,5 @@
 -- `places::table_for` meets its contract: each operation and call is the definition's, in its order. Assumes nothing.
-use Rattle.light_tables.specs.Places.{tableFor}
+use Rattle.light_tables.specs.Steps.{tableFor}
 use mathlib.Core.Path.{refl}
 use borrow.Author.Needs.{needs}
 use Rattle.light_tables.proofs.places.table_for.Statement.{statement}

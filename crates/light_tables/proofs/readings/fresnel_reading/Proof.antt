@@ -1,5 +1,5 @@
 -- `readings::fresnel_reading` meets its contract: each operation and call is the definition's, in its order. Assumes nothing.
-use Rattle.light_tables.specs.Readings.{fresnelReading}
+use Rattle.light_tables.specs.Steps.{fresnelReading}
 use borrow.Author.Needs.{needs}
 use Rattle.light_tables.proofs.readings.fresnel_reading.Statement.{statement}
 use Rattle.light_tables.proofs.readings.fresnel_reading.Tie as tie

@@ -1,5 +1,5 @@
 -- `readings::readings_by` meets its contract: each operation and call is the definition's, in its order. Assumes nothing.
-use Rattle.light_tables.specs.Readings.{readingsBy}
+use Rattle.light_tables.specs.Steps.{readingsBy}
 use borrow.Author.Needs.{needs}
 use Rattle.light_tables.proofs.readings.readings_by.Statement.{statement}
 use Rattle.light_tables.proofs.readings.readings_by.Tie as tie

@@ -1,5 +1,5 @@
 -- `readings::readings_of` meets its contract: each operation and call is the definition's, in its order. Assumes nothing.
-use Rattle.light_tables.specs.Readings.{readingsOf}
+use Rattle.light_tables.specs.Steps.{readingsOf}
 use borrow.Author.Needs.{needs}
 use Rattle.light_tables.proofs.readings.readings_of.Statement.{statement}
 use Rattle.light_tables.proofs.readings.readings_of.Tie as tie

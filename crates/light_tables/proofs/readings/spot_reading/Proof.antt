@@ -1,5 +1,5 @@
 -- `readings::spot_reading` meets its contract: each operation and call is the definition's, in its order. Assumes nothing.
-use Rattle.light_tables.specs.Readings.{spotReading}
+use Rattle.light_tables.specs.Steps.{spotReading}
 use borrow.Author.Needs.{needs}
 use Rattle.light_tables.proofs.readings.spot_reading.Statement.{statement}
 use Rattle.light_tables.proofs.readings.spot_reading.Tie as tie

@@ -3,7 +3,7 @@ use Prim.Native.Nat.{_+_, _-_, _*_, _≤_}
 use native.Mathlib.Omega.{arith}
 use mathlib.Core.Path.{_≡_, refl, sym, ap, _∙_}
 use lib.ListN.{length, getD, take}
-use Rattle.lighting_abi.specs.AnswerBytesBytes.{bytesOf}
+use Rattle.lighting_abi.specs.Boundary.{bytesOf}
 use Rattle.lighting_abi.proofs.answer_bytes.Writes.{same-size, written, all}
 use borrow.Author.Needs.{needs}
 use Rattle.lighting_abi.proofs.answer_bytes.put.Statement.{statement}

@@ -2,7 +2,7 @@
 use Prim.Native.Nat.{_+_, _*_, _/_, _%_}
 use lib.ListN.{set, length-set}
 use native.Mathlib.Omega.{arith}
-use Rattle.lighting_abi.specs.AnswerBytesBytes.{withWord}
+use Rattle.lighting_abi.specs.Steps.{withWord}
 use borrow.Author.Needs.{needs}
 use Rattle.lighting_abi.proofs.answer_bytes.put_word.Statement.{statement}
 use Rattle.lighting_abi.proofs.answer_bytes.put_word.Tie as tie

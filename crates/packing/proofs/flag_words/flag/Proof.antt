@@ -1,6 +1,6 @@
 -- `flag_words::flag` meets its contract: it is the definition, by its two cases. Assumes nothing.
 use native.Mathlib.Omega.{arith}
-use Rattle.block.specs.Words.{flagWord}
+use Rattle.block.specs.Block.{flagWord}
 use Rattle.packing.proofs.flag_words.flag.Statement.{statement}
 use Rattle.packing.proofs.flag_words.flag.Tie as tie
 

@@ -1,12 +1,12 @@
 -- `head_words::put_head` meets its contract: its rows, one after another, are the definition's. A count and units in range fit their words.
 -- Assumes nothing.
-use borrow.Author.Needs.{needs}
-use mathlib.Core.Path.{ap, _∙_}
 use native.Mathlib.Omega.{arith}
+use mathlib.Core.Path.{ap, _∙_}
 use lib.ListN.{length}
+use borrow.Author.Needs.{needs}
 use Rattle.block.specs.PackedLaws.{range-bump, range-shadow, range-count}
 use Rattle.packing.specs.PutLaws.{length-put}
-use Rattle.packing.proofs.head_words.Parts.{head-put}
+use Rattle.packing.proofs.head_words.Head.{head-put}
 use Rattle.packing.proofs.head_words.put_head.Statement.{statement}
 use Rattle.packing.proofs.head_words.put_head.Tie as tie
 

@@ -1,8 +1,8 @@
 -- `head_words::put_lookups` meets its contract: its seven rows, one after another, are the definition's. Assumes nothing.
-use borrow.Author.Needs.{needs}
 use mathlib.Core.Path.{refl}
-use Rattle.block.specs.Words.{lookupWords}
-use Rattle.packing.specs.HeadWordsParts.{lookupsWords}
+use borrow.Author.Needs.{needs}
+use Rattle.block.specs.Block.{lookupWords}
+use Rattle.packing.specs.Steps.{lookupsWords}
 use Rattle.packing.specs.PutLaws.{after}
 use Rattle.packing.proofs.head_words.put_lookups.Statement.{statement}
 use Rattle.packing.proofs.head_words.put_lookups.Tie as tie

@@ -1,6 +1,6 @@
 -- `light_words::put_light` meets its contract: its parts, one after another, are the definition's. Assumes nothing.
 use borrow.Author.Needs.{needs}
-use Rattle.packing.proofs.light_words.Parts.{light-put}
+use Rattle.packing.proofs.light_words.Light.{light-put}
 use Rattle.packing.proofs.light_words.put_light.Statement.{statement}
 use Rattle.packing.proofs.light_words.put_light.Tie as tie
 

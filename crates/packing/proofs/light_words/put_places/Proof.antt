@@ -1,8 +1,8 @@
 -- `light_words::put_places` meets its contract: its three rows, one after another, are the definition's. Assumes nothing.
-use borrow.Author.Needs.{needs}
 use mathlib.Core.Path.{refl}
-use Rattle.block.specs.Words.{vectorWords}
-use Rattle.packing.specs.Parts.{placesWords}
+use borrow.Author.Needs.{needs}
+use Rattle.block.specs.Block.{vectorWords}
+use Rattle.packing.specs.Steps.{placesWords}
 use Rattle.packing.specs.PutLaws.{after}
 use Rattle.packing.proofs.light_words.put_places.Statement.{statement}
 use Rattle.packing.proofs.light_words.put_places.Tie as tie

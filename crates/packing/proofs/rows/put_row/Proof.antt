@@ -1,7 +1,7 @@
 -- `rows::put_row` meets its contract: its four stores are the definition's. Assumes nothing.
-use borrow.Author.Needs.{needs}
 use native.Mathlib.Omega.{arith}
 use lib.ListN.{length-set}
+use borrow.Author.Needs.{needs}
 use Rattle.packing.specs.PutLaws.{row}
 use Rattle.packing.proofs.rows.put_row.Statement.{statement}
 use Rattle.packing.proofs.rows.put_row.Tie as tie

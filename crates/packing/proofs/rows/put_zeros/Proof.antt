@@ -1,13 +1,12 @@
 -- `rows::put_zeros` meets its contract. The loop's invariant: i zeros are put. Assumes nothing.
-use mathlib.Core.Path.{_≡_, refl, ap, _∙_}
-use Prim.Native.Nat.{_+_, _≤_, _-_}
+use Prim.Native.Nat.{_+_, _≤_, _-_, ℕ}
 use native.Mathlib.Omega.{arith}
-use borrow.Author.Needs.{needs}
-use lib.ListN.{length, set, replicate}
-use Rattle.packing.specs.Put.{putWords}
-use Rattle.packing.specs.PutLaws.{length-put, zero-more}
+use mathlib.Core.Path.{_≡_, refl, ap, _∙_}
 use mathlib.Core.List.{List}
-use Prim.Native.Nat.{ℕ, _+_, _≤_, _-_}
+use lib.ListN.{length, set, replicate}
+use borrow.Author.Needs.{needs}
+use Rattle.packing.specs.Steps.{putWords}
+use Rattle.packing.specs.PutLaws.{length-put, zero-more}
 use Rattle.packing.proofs.rows.put_zeros.Statement.{statement}
 use Rattle.packing.proofs.rows.put_zeros.Tie as tie
 

@@ -2,9 +2,9 @@
 use native.Mathlib.Omega.{arith}
 use borrow.Author.Tests.{lt-ltb, le-ltb}
 use lib.ListN.{length-set}
-use Rattle.printing.specs.Writing.{puts}
+use Rattle.printing.specs.Steps.{puts}
 use Rattle.printing.specs.WritingLaws.{puts-two, puts-three}
-use Rattle.printing.specs.Decimal.{decimal}
+use Rattle.printing.specs.Printing.{decimal}
 use borrow.Author.Needs.{needs}
 use Rattle.printing.proofs.decimals.put_decimal.Statement.{statement}
 use Rattle.printing.proofs.decimals.put_decimal.Tie as tie

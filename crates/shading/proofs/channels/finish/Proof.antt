@@ -1,5 +1,5 @@
 -- `channels::finish` meets its contract: each operation and call is the definition's, in its order. Assumes nothing.
-use Rattle.shading.specs.Channels.{finishOf}
+use Rattle.shading.specs.Steps.{finishOf}
 use borrow.Author.Needs.{needs}
 use Rattle.shading.proofs.channels.finish.Statement.{statement}
 use Rattle.shading.proofs.channels.finish.Tie as tie

@@ -1,5 +1,5 @@
 -- `channels::shadowed_alpha` meets its contract: each operation and call is the definition's, in its order. Assumes nothing.
-use Rattle.shading.specs.Channels.{shadowedAlpha}
+use Rattle.shading.specs.Steps.{shadowedAlpha}
 use Rattle.shading.proofs.channels.shadowed_alpha.Statement.{statement}
 use Rattle.shading.proofs.channels.shadowed_alpha.Tie as tie
 

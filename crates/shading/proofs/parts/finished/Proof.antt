@@ -1,5 +1,5 @@
 -- `parts::finished` meets its contract: each operation and call is the definition's, in its order. Assumes nothing.
-use Rattle.shading.specs.Parts.{finishedOf}
+use Rattle.shading.specs.Steps.{finishedOf}
 use borrow.Author.Needs.{needs}
 use Rattle.shading.proofs.parts.finished.Statement.{statement}
 use Rattle.shading.proofs.parts.finished.Tie as tie

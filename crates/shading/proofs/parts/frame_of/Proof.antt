@@ -1,5 +1,5 @@
 -- `parts::frame_of` meets its contract: each operation and call is the definition's, in its order. Assumes nothing.
-use Rattle.shading.specs.Parts.{lightingFrame}
+use Rattle.shading.specs.Steps.{lightingFrame}
 use Rattle.block.specs.PackedLaws.{range-bump}
 use borrow.Author.Needs.{needs}
 use Rattle.shading.proofs.parts.frame_of.Statement.{statement}

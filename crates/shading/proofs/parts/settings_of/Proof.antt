@@ -1,5 +1,5 @@
 -- `parts::settings_of` meets its contract: each operation and call is the definition's, in its order. Assumes nothing.
-use Rattle.shading.specs.Parts.{lightingSettings}
+use Rattle.shading.specs.Steps.{lightingSettings}
 use borrow.Author.Needs.{needs}
 use Rattle.shading.proofs.parts.settings_of.Statement.{statement}
 use Rattle.shading.proofs.parts.settings_of.Tie as tie

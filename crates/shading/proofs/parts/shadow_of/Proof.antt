@@ -1,5 +1,5 @@
 -- `parts::shadow_of` meets its contract: each operation and call is the definition's, in its order. Assumes nothing.
-use Rattle.shading.specs.Parts.{lightingShadow}
+use Rattle.shading.specs.Steps.{lightingShadow}
 use Rattle.block.specs.PackedLaws.{range-shadow}
 use borrow.Author.Needs.{needs}
 use Rattle.shading.proofs.parts.shadow_of.Statement.{statement}

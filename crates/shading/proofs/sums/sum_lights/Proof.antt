@@ -1,21 +1,21 @@
--- `sums::sum_lights` meets its contract. Before slot i the sums are the definition's after i slots, and `step` adds the slot's light.
+-- `sums::sum_lights` meets its contract. Before a slot the sums are the definition's after the slots before it, and `step` adds the slot's light.
 -- Assumes nothing.
 use Prim.Native.Nat.{_≤_, _-_}
-use Rattle.sources.specs.Sources.{given}
+use Rattle.sources.specs.Steps.{given}
 use mathlib.Core.Path.{_≡_, refl}
 use native.Mathlib.Omega.{arith}
 use native.Mathlib.Numerals.{add-one}
 use borrow.Author.Needs.{needs}
-use Rattle.shading.specs.Sums.{sumsBy}
+use Rattle.shading.specs.Steps.{sumsBy}
 use Rattle.shading.proofs.sums.sum_lights.Statement.{statement}
 use Rattle.shading.proofs.sums.sum_lights.Tie as tie
 
 abbrev Inv-loop : tie.InvT-loop
-Inv-loop tables bytes lookups frame settings count lights sums₀ i₀ sums i =
-    (i ≤ count) × (count ≤ 8) × (sums ≡ sumsBy (given tables bytes) lookups frame settings lights count i)
+Inv-loop tables bytes lookups frame settings count lights sums₀ slot₀ sums slot =
+    (slot .0 ≤ count) × (count ≤ 8) × (sums ≡ sumsBy (given tables bytes) lookups frame settings lights count (slot .0))
 
 abbrev μ-loop : tie.MeasureT-loop
-μ-loop tables bytes lookups frame settings count lights sums₀ i₀ sums i = count - i
+μ-loop tables bytes lookups frame settings count lights sums₀ slot₀ sums slot = count - slot .0
 
 loop-holds : tie.Need-loop-holds Inv-loop μ-loop
 unfolding sumsBy
@@ -32,11 +32,11 @@ is-last-requires c κs = omega arith
 
 step-requires : tie.Need-step-requires Inv-loop μ-loop
 step-requires c κs =
-    let s = c .before .before .before .before .before .before in
-    (s .pre .0, s .pre .2 (c .before .before .before .loop .i) (omega arith))
+    let s = c .before .before .before .before .before .before .before in
+    (s .pre .0, s .pre .2 (c .before .before .before .before .loop .slot .0) (omega arith))
 
-add-i : tie.Need-add-i Inv-loop μ-loop
-add-i c = search needs
+add-slot : tie.Need-add-slot Inv-loop μ-loop
+add-slot c = search needs
 
 loop-less : tie.Need-loop-less Inv-loop μ-loop
 loop-less c = search needs
@@ -44,12 +44,12 @@ loop-less c = search needs
 loop-again : tie.Need-loop-again Inv-loop μ-loop
 unfolding sumsBy
 loop-again c =
-    (omega arith, c .before .before .before .before .loop .inv .1, simp (c .step .ensures, c .before .is-last .ensures, c .before .before .before .before .loop .inv .2, add-one))
+    (omega arith, c .before .before .before .before .before .before .loop .inv .1, simp (c .before .step .ensures, c .before .before .is-last .ensures, c .before .before .before .before .before .before .loop .inv .2, add-one))
 
 returns : tie.Need-returns Inv-loop μ-loop
 returns c =
-    let e : c .before .loop .i ≡ c .before .before .before .before .args .count = omega arith in
-    rw (c .before .loop .inv .2, e)
+    let e : c .before .before .loop .slot .0 ≡ c .before .before .before .before .before .args .count = omega arith in
+    rw (c .before .before .loop .inv .2, e)
 
 pub sum-lights-spec : {M : Type 1} → statement M
 sum-lights-spec =
@@ -62,7 +62,7 @@ sum-lights-spec =
     array-copy-out-light
     is-last-requires
     step-requires
-    add-i
+    add-slot
     loop-less
     loop-again
     returns)

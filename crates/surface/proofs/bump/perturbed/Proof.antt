@@ -1,6 +1,6 @@
 -- `bump::perturbed` meets its contract: each operation and call is the definition's, in its order. Assumes nothing.
 use lib.Ieee.{ofInt, ofBits}
-use Rattle.surface.specs.Bump.{perturbed}
+use Rattle.surface.specs.Steps.{perturbed}
 use mathlib.Core.Path.{refl}
 use borrow.Author.Needs.{needs}
 use Rattle.surface.proofs.bump.perturbed.Statement.{statement}

@@ -1,5 +1,5 @@
 -- `bump::rebuilt` meets its contract: each operation and call is the definition's, in its order. Assumes nothing.
-use Rattle.surface.specs.Bump.{rebuilt}
+use Rattle.surface.specs.Steps.{rebuilt}
 use borrow.Author.Needs.{needs}
 use Rattle.surface.proofs.bump.rebuilt.Statement.{statement}
 use Rattle.surface.proofs.bump.rebuilt.Tie as tie

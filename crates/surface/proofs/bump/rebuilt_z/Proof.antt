@@ -1,5 +1,5 @@
 -- `bump::rebuilt_z` meets its contract: each operation and call is the definition's, in its order. Assumes nothing.
-use Rattle.surface.specs.Bump.{rebuiltZ}
+use Rattle.surface.specs.Steps.{rebuiltZ}
 use borrow.Author.Needs.{needs}
 use Rattle.surface.proofs.bump.rebuilt_z.Statement.{statement}
 use Rattle.surface.proofs.bump.rebuilt_z.Tie as tie

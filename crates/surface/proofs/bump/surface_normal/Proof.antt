@@ -1,5 +1,5 @@
 -- `bump::surface_normal` meets its contract: each operation and call is the definition's, in its order. Assumes nothing.
-use Rattle.surface.specs.Bump.{surfaceNormal}
+use Rattle.surface.specs.Steps.{surfaceNormal}
 use borrow.Author.Needs.{needs}
 use Rattle.surface.proofs.bump.surface_normal.Statement.{statement}
 use Rattle.surface.proofs.bump.surface_normal.Tie as tie

@@ -1,5 +1,5 @@
 -- `bump::surface_tangent` meets its contract: each operation and call is the definition's, in its order. Assumes nothing.
-use Rattle.surface.specs.Bump.{surfaceTangent}
+use Rattle.surface.specs.Steps.{surfaceTangent}
 use borrow.Author.Needs.{needs}
 use Rattle.surface.proofs.bump.surface_tangent.Statement.{statement}
 use Rattle.surface.proofs.bump.surface_tangent.Tie as tie

@@ -1,5 +1,5 @@
 -- `facing::facing_of` meets its contract: each operation and call is the definition's, in its order. Assumes nothing.
-use Rattle.surface.specs.Facing.{facingOf}
+use Rattle.surface.specs.Steps.{facingOf}
 use borrow.Author.Needs.{needs}
 use Rattle.surface.proofs.facing.facing_of.Statement.{statement}
 use Rattle.surface.proofs.facing.facing_of.Tie as tie

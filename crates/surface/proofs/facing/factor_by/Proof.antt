@@ -1,5 +1,5 @@
 -- `facing::factor_by` meets its contract: each operation and call is the definition's, in its order. Assumes nothing.
-use Rattle.surface.specs.Facing.{factorBy}
+use Rattle.surface.specs.Steps.{factorBy}
 use borrow.Author.Needs.{needs}
 use Rattle.surface.proofs.facing.factor_by.Statement.{statement}
 use Rattle.surface.proofs.facing.factor_by.Tie as tie

@@ -1,5 +1,5 @@
 -- `facing::highlights_of` meets its contract: each operation and call is the definition's, in its order. Assumes nothing.
-use Rattle.surface.specs.Facing.{highlightsOf}
+use Rattle.surface.specs.Steps.{highlightsOf}
 use Rattle.surface.proofs.facing.highlights_of.Statement.{statement}
 use Rattle.surface.proofs.facing.highlights_of.Tie as tie
 

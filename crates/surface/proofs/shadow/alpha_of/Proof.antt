@@ -1,5 +1,5 @@
 -- `shadow::alpha_of` meets its contract: each operation and call is the definition's, in its order. Assumes nothing.
-use Rattle.surface.specs.Shadow.{alphaOf}
+use Rattle.surface.specs.Steps.{alphaOf}
 use borrow.Author.Needs.{needs}
 use Rattle.surface.proofs.shadow.alpha_of.Statement.{statement}
 use Rattle.surface.proofs.shadow.alpha_of.Tie as tie

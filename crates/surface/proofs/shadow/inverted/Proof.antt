@@ -1,5 +1,5 @@
 -- `shadow::inverted` meets its contract: each operation and call is the definition's, in its order. Assumes nothing.
-use Rattle.surface.specs.Shadow.{inverted}
+use Rattle.surface.specs.Steps.{inverted}
 use borrow.Author.Needs.{needs}
 use Rattle.surface.proofs.shadow.inverted.Statement.{statement}
 use Rattle.surface.proofs.shadow.inverted.Tie as tie

@@ -1,5 +1,5 @@
 -- `shadow::primary_of` meets its contract: each operation and call is the definition's, in its order. Assumes nothing.
-use Rattle.surface.specs.Shadow.{primaryOf}
+use Rattle.surface.specs.Steps.{primaryOf}
 use borrow.Author.Needs.{needs}
 use Rattle.surface.proofs.shadow.primary_of.Statement.{statement}
 use Rattle.surface.proofs.shadow.primary_of.Tie as tie

@@ -1,5 +1,5 @@
 -- `shadow::secondary_of` meets its contract: each operation and call is the definition's, in its order. Assumes nothing.
-use Rattle.surface.specs.Shadow.{secondaryOf}
+use Rattle.surface.specs.Steps.{secondaryOf}
 use borrow.Author.Needs.{needs}
 use Rattle.surface.proofs.shadow.secondary_of.Statement.{statement}
 use Rattle.surface.proofs.shadow.secondary_of.Tie as tie

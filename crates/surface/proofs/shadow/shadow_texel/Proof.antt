@@ -1,5 +1,5 @@
 -- `shadow::shadow_texel` meets its contract: each operation and call is the definition's, in its order. Assumes nothing.
-use Rattle.surface.specs.Shadow.{shadowTexel}
+use Rattle.surface.specs.Steps.{shadowTexel}
 use borrow.Author.Needs.{needs}
 use Rattle.surface.proofs.shadow.shadow_texel.Statement.{statement}
 use Rattle.surface.proofs.shadow.shadow_texel.Tie as tie

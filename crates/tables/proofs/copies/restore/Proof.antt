@@ -1,9 +1,8 @@
 -- `copies::restore` meets its contract: each return rewrites the definition with the tests that led there, and the copy makes the tables the saved words. Assumes nothing.
 use borrow.Author.Needs.{needs}
 use borrow.Author.Tests.{eq-eqb, ne-eqb}
-use Rattle.refusals.specs.Lengths.{tablesRefusal, savedRefusal}
-use Rattle.tables.specs.Generation.{last}
-use Rattle.tables.specs.Restore.{restoreIf}
+use Rattle.refusals.specs.Refusals.{tablesRefusal, savedRefusal}
+use Rattle.tables.specs.Tables.{last, restoreIf}
 use Rattle.tables.proofs.copies.restore.Statement.{statement}
 use Rattle.tables.proofs.copies.restore.Tie as tie
 

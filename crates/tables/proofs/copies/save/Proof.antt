@@ -1,8 +1,8 @@
 -- `copies::save` meets its contract: each return rewrites the definition with the tests that led there, and the copy makes the output the tables' words. Assumes nothing.
 use borrow.Author.Needs.{needs}
 use borrow.Author.Tests.{eq-eqb, ne-eqb}
-use Rattle.refusals.specs.Lengths.{tablesRefusal, savedRefusal}
-use Rattle.tables.specs.Restore.{saveIf}
+use Rattle.refusals.specs.Refusals.{tablesRefusal, savedRefusal}
+use Rattle.tables.specs.Tables.{saveIf}
 use Rattle.tables.proofs.copies.save.Statement.{statement}
 use Rattle.tables.proofs.copies.save.Tie as tie
 

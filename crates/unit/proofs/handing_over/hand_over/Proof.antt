@@ -4,7 +4,7 @@ use mathlib.Core.Path.{sym, _∙_}
 use mathlib.Core.Logic.{⊎-elim}
 use borrow.Author.Needs.{needs}
 use borrow.Author.Tests.{not-true, not-false}
-use Rattle.unit.specs.CachedRead.{current}
+use Rattle.unit.specs.Unit.{current}
 use Rattle.unit.specs.HandOverLaws.{hand-over-lengths}
 use Rattle.unit.proofs.handing_over.Handing.{past-zero, by-length, by-read, Read, kept-read, anew-read, refused-hands, done-hands}
 use Rattle.unit.proofs.handing_over.hand_over.Statement.{statement}

@@ -1,6 +1,6 @@
 -- `handing_over::length_refusal` meets its contract: each return is the first refusal that is met. Assumes nothing.
 use borrow.Author.Tests.{lt-leb, le-leb, eq-eqb, ne-eqb}
-use Rattle.refusals.specs.Lengths.{fileRefusal, tablesRefusal, blockRefusal}
+use Rattle.refusals.specs.Refusals.{fileRefusal, tablesRefusal, blockRefusal}
 use Rattle.unit.proofs.handing_over.length_refusal.Statement.{statement}
 use Rattle.unit.proofs.handing_over.length_refusal.Tie as tie
 

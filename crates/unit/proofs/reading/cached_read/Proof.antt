@@ -2,8 +2,8 @@
 use mathlib.Core.Path.{sym, _∙_}
 use borrow.Author.Needs.{needs}
 use borrow.Author.Tests.{lt-leb, le-leb}
-use Rattle.refusals.specs.Lengths.{fileRefusal}
-use Rattle.unit.specs.CachedRead.{current, refreshed, cachedReadIf}
+use Rattle.refusals.specs.Refusals.{fileRefusal}
+use Rattle.unit.specs.Unit.{current, refreshed, cachedReadIf}
 use Rattle.unit.proofs.reading.cached_read.Statement.{statement}
 use Rattle.unit.proofs.reading.cached_read.Tie as tie
 

@@ -1,9 +1,9 @@
 -- `taking::pack_reading` meets its contract: a lighting that is on is packed as `pack` does, and one that is off is all zero. Assumes nothing.
 use mathlib.Core.Path.{refl, _∙_}
 use borrow.Author.Needs.{needs}
-use Rattle.block.specs.Answers.{packedReading}
-use Rattle.unit.specs.HandOver.{packable}
-use Rattle.unit.specs.Taking.{packsReading}
+use Rattle.block.specs.Block.{packedReading}
+use Rattle.unit.specs.Unit.{packable}
+use Rattle.unit.specs.Steps.{packsReading}
 use Rattle.unit.proofs.taking.Took.{pack-on}
 use Rattle.unit.proofs.taking.pack_reading.Statement.{statement}
 use Rattle.unit.proofs.taking.pack_reading.Tie as tie

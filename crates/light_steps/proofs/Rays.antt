@@ -1,0 +1,31 @@
+-- What the ray to a light gives the rest of a step: its vector is the definition's, so both directions are, and its norm is that of −view − position where a
+-- distance is read. Assumes nothing.
+use Prim.Native.Nat.{ℕ}
+use mathlib.Core.Path.{_≡_, ap, _∙_}
+use mathlib.Core.List.{List}
+use mathlib.Core.Bool.{Bool}
+use lib.Ieee.{Float}
+use Rattle.lighting.specs.declared.Light.{Light}
+use Rattle.surface.specs.declared.types.Frame.{Frame}
+use Rattle.surface.specs.declared.types.Directions.{Directions}
+use Rattle.surface.specs.declared.types.Ray.{Ray}
+use Rattle.surface.specs.declared.types.Reading.{Reading}
+use Rattle.light_tables.specs.Steps.{directionsBy, directionsOf, rayTo, distanceReadingBy, readValue}
+use Rattle.light_steps.specs.Steps.{distanceReading}
+use Rattle.light_steps.specs.ReadingsLaws.{distance-by}
+
+pub directions-is : (light : Light) (frame : Frame) (needed : Bool) (ray : Ray) (directions : Directions)
+    → ray ≡ rayTo light (frame .view)
+    → directions ≡ directionsBy (ray .vector) frame needed
+    → directions ≡ directionsOf light frame needed
+unfolding directionsOf rayTo
+directions-is light frame needed ray directions w t = t ∙ ap (λ (x : Ray). directionsBy (x .vector) frame needed) w
+
+pub distance-is : (tables : List ℕ) (light : Light) (view : List Float) (ray : Ray) (d : Float)
+    → ray ≡ rayTo light view
+    → d ≡ readValue tables (distanceReadingBy (light .distance) (light .number) (ray .norm))
+    → d ≡ readValue tables (distanceReading light view)
+distance-is tables light view ray d w e =
+    e
+    ∙ ap (λ (x : Ray). readValue tables (distanceReadingBy (light .distance) (light .number) (x .norm))) w
+    ∙ ap (λ (x : Reading). readValue tables x) (distance-by light view)

@@ -1,0 +1,126 @@
+// A light's contribution to the sums of a fragment.
+ghost use mathlib.Core.Path.{_≡_};
+ghost use Rattle.light_steps.specs.Steps.{unread, shadowFor, addedOf, summedOf, withTerms, withValues};
+use crate::terms;
+use crate::values;
+use flags::both;
+use flags::either;
+use lighting::Light;
+use surface::types::Directions;
+use surface::types::Settings;
+use surface::types::Sums;
+use surface::types::Values;
+
+fn shadow_for(shadowed: bool, shadow: [f32; 4]) -> [f32; 3]
+    ensures { λ r. ⌜ r ≡ shadowFor shadowed shadow ⌝ }
+{
+    if shadowed {
+        [shadow[0], shadow[1], shadow[2]]
+    } else {
+        [1.0, 1.0, 1.0]
+    }
+}
+
+fn added(sum: [f32; 4], terms: [f32; 3], shadow: [f32; 3], alpha: f32) -> [f32; 4]
+    ensures { λ r. ⌜ r ≡ addedOf sum terms shadow alpha ⌝ }
+{
+    [
+        sum[0] + terms[0] * shadow[0],
+        sum[1] + terms[1] * shadow[1],
+        sum[2] + terms[2] * shadow[2],
+        alpha,
+    ]
+}
+
+// A sum with a light's terms. Fresnel takes the place of alpha where it is applied.
+fn summed(
+    sum: [f32; 4],
+    terms: [f32; 3],
+    shadowed: bool,
+    shadow: [f32; 4],
+    applied: bool,
+    fresnel: f32,
+) -> [f32; 4]
+    ensures { λ r. ⌜ r ≡ summedOf sum terms shadowed shadow applied fresnel ⌝ }
+{
+    let k = shadow_for(shadowed, shadow);
+    if applied {
+        added(sum, terms, k, fresnel)
+    } else {
+        added(sum, terms, k, sum[3])
+    }
+}
+
+// Both sums with a light's terms. `last` is the last slot lit. A light that no shadow falls on has a way of its own: its factors are the constant 1, and the
+// compiler leaves the products out.
+fn with_terms(
+    sums: Sums,
+    p: [f32; 3],
+    q: [f32; 3],
+    shadowed: bool,
+    settings: Settings,
+    last: bool,
+    fresnel: f32,
+) -> Sums
+    ensures { λ r. ⌜ r ≡ withTerms sums p q shadowed settings last fresnel ⌝ }
+{
+    let shadow = settings.shadow;
+    let d = sums.diffuse;
+    let s = sums.specular;
+    let primary = both(settings.shadow_primary, shadowed);
+    let secondary = both(settings.shadow_secondary, shadowed);
+    let f = both(last, settings.fresnel_sets_primary);
+    let g = both(last, settings.fresnel_sets_secondary);
+    if either(primary, secondary) {
+        return Sums {
+            diffuse: summed(d, p, primary, shadow, f, fresnel),
+            specular: summed(s, q, secondary, shadow, g, fresnel),
+        };
+    }
+    Sums {
+        diffuse: summed(d, p, false, shadow, f, fresnel),
+        specular: summed(s, q, false, shadow, g, fresnel),
+    }
+}
+
+// Both sums with a light's contribution, from its values.
+pub(crate) fn with_values(
+    sums: Sums,
+    light: Light,
+    normal: [f32; 3],
+    directions: Directions,
+    v: Values,
+    settings: Settings,
+    last: bool,
+) -> Sums
+    ensures { λ r. ⌜ r ≡ withValues sums light normal directions v settings last ⌝ }
+{
+    let light_vector = directions.light_vector;
+    let half = directions.half;
+    let facing = surface::facing::facing_of(light.two_sided, vectors::dot(light_vector, normal));
+    let p = terms::diffuse(light, facing, v.distance, v.spot);
+    let q = terms::specular(light, half, v, settings.clamp_highlights, facing);
+    with_terms(sums, p, q, light.shadowed, settings, last, v.fresnel)
+}
+
+// The same for a light that reads no table but its distance table: every other value is 1, and the compiler leaves the products out. It would leave them in
+// if this called `with_values`, which is too long to be inlined for two callers: so its lines stand twice.
+pub(crate) fn with_unread(
+    sums: Sums,
+    light: Light,
+    normal: [f32; 3],
+    directions: Directions,
+    distance: f32,
+    settings: Settings,
+    last: bool,
+) -> Sums
+    ensures { λ r. ⌜ r ≡ withValues sums light normal directions (unread distance) settings last ⌝ }
+{
+    let v = values::unread(distance);
+    let light_vector = directions.light_vector;
+    let half = directions.half;
+    let facing = surface::facing::facing_of(light.two_sided, vectors::dot(light_vector, normal));
+    let p = terms::diffuse(light, facing, v.distance, v.spot);
+    let q = terms::specular(light, half, v, settings.clamp_highlights, facing);
+    with_terms(sums, p, q, light.shadowed, settings, last, v.fresnel)
+}
