@@ -11,6 +11,7 @@ use lib.ListN.{getD, getD-replicate}
 use lib.Ieee.{Float, nan, inf, fin, binary32, isNan, toBits, fits}
 use lib.Ieee.Bits.{ofBits-toBits, nanBits-is, nanBits-above}
 use borrow.Author.Tests.{eq-eqb, lt-ltb, le-ltb, le-leb, ltb-true, ltb-false}
+use Rattle.flags.specs.FlagsLaws.{both-first, both-second, alike}
 use Rattle.binary32.specs.Binary32.{wordOf}
 use Rattle.vectors.specs.Vectors.{at}
 use Rattle.vectors.specs.Claims.{Vector}
@@ -31,7 +32,7 @@ use Rattle.lighting.specs.Claims.{LightFits, DistanceFits, LightingFits}
 use Rattle.block.specs.Block.{bitOf, flagWord, bumpWord, shadowWord, lookupRow, lookupWords, vectorWords, headWords, distanceRow, flagsWord, lightWords, packed, words, from, lookupAt, slotAt, zeros, bitAt, bumpFormed, shadowFormed, scaleFormed, paddingZero, isNumber, floatFormed, wellFormed, accepted, distanceWords}
 use Rattle.block.specs.Steps.{lookupAcceptable, optionalLookupAcceptable, acceptable}
 use Rattle.block.specs.Claims.{AcceptedIs}
-use Rattle.block.specs.TestLaws.{never, both-first, both-second, _also_, or-first, or-second, same-bool, chain-first, chain-part, every-one}
+use Rattle.block.specs.TestLaws.{never, _also_, or-first, or-second, chain-first, chain-part, every-one}
 use Rattle.block.specs.FormedLaws.{Shaped, formed-parts, formed-made}
 use Rattle.block.specs.FlagLaws.{flag-is, bit-small, bit-formed, flag-4, flags-small, needs-back, needs-small}
 use Rattle.block.specs.ListLaws.{picks, picks-at, slot-lit, slot-unlit, count-of}
@@ -410,4 +411,4 @@ accepted-acceptable l h =
     (formed-parts (words (packed l)) (both-second (inRange l) (wellFormed (words (packed l))) h) .shape)
 
 pub accepted-is : AcceptedIs
-accepted-is l h = same-bool (accepted l) (acceptable l) (accepted-acceptable l) (acceptable-accepted l h)
+accepted-is l h = alike (accepted l) (acceptable l) (accepted-acceptable l) (acceptable-accepted l h)

@@ -10,19 +10,12 @@ use mathlib.Core.Logic.{_⊎_, inl, inr}
 use lib.Dec.{T, eqb}
 use lib.ListN.{getD}
 use borrow.Author.Tests.{eqb-true, eqb-false}
+use Rattle.flags.specs.FlagsLaws.{both-first, both-second, alike}
 use Rattle.lighting.specs.Forms.{every}
 
 -- what is false isn't true
 pub never : {X : Type 0} → false ≡ true → X
 never e = absurd (subst (λ (x : Bool). T (not x)) e tt)
-
-pub both-first : (a b : Bool) → (a && b) ≡ true → a ≡ true
-both-first true b h = refl
-both-first false b h = h
-
-pub both-second : (a b : Bool) → (a && b) ≡ true → b ≡ true
-both-second true b h = h
-both-second false b h = never h
 
 infixl 35 _also_
 pub _also_ : {a b : Bool} → a ≡ true → b ≡ true → (a && b) ≡ true
@@ -38,11 +31,6 @@ or-first a b e = rw e refl
 pub or-second : (a b : Bool) → b ≡ true → (a || b) ≡ true
 or-second true b e = refl
 or-second false b e = e
-
-pub same-bool : (a b : Bool) → (a ≡ true → b ≡ true) → (b ≡ true → a ≡ true) → a ≡ b
-same-bool true b f g = sym (f refl)
-same-bool false true f g = g refl
-same-bool false false f g = refl
 
 -- a test and others, as `&&` joins them
 abbrev chain : Bool → List Bool → Bool
@@ -69,7 +57,7 @@ every-one (suc n) p i h k = go (eqb i n) refl (λ m. every-one n p i (both-first
 
 -- one that fails fails them all
 pub every-bad : (n : ℕ) (p : ℕ → Bool) (i : ℕ) → i < n → p i ≡ false → every n p ≡ false
-every-bad n p i k e = same-bool (every n p) false (λ a. sym e ∙ every-one n p i a k) never
+every-bad n p i k e = alike (every n p) false (λ a. sym e ∙ every-one n p i a k) never
 
 pub every-of : (n : ℕ) (p : ℕ → Bool) → ((i : ℕ) → i < n → p i ≡ true) → every n p ≡ true
 unfolding every

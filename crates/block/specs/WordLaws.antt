@@ -10,6 +10,7 @@ use lib.Dec.{T, eqb, ltb, leb}
 use lib.Ieee.{binary32, nanBits, ofBits, toBits}
 use lib.Ieee.Bits.{toBits-ofBits, nanBits-is, nanBits-above}
 use borrow.Author.Tests.{eq-eqb, ne-eqb, le-ltb, le-leb, ltb-true, leb-true, eqb-true, eqb-false}
+use Rattle.flags.specs.FlagsLaws.{both-first, both-second, alike}
 use Rattle.binary32.specs.Binary32.{floatOf, wordOf}
 use Rattle.lighting.specs.declared.OptionalLookup.{OptionalLookup}
 use Rattle.lighting.specs.declared.OptionalLookup.the-variants.{Missing, Present}
@@ -18,7 +19,7 @@ use Rattle.lighting.specs.declared.Bump.the-variants.{Flat, Normal, Tangent}
 use Rattle.lighting.specs.declared.OptionalShadow.the-variants.{Unshadowed, Shadowed}
 use Rattle.lighting.specs.Lighting.{isScaled, bumpUnit, shadowUnit}
 use Rattle.block.specs.Block.{flagWord, bumpWord, shadowWord, lookupRow, distanceRow, zeros, bitAt, bumpFormed, shadowFormed, scaleFormed, isNumber, floatFormed, blockBump, blockShadow, blockLookup, blockOptionalLookup, blockDistance}
-use Rattle.block.specs.TestLaws.{both-first, both-second, or-first, same-bool, chain-first, chain-part, or-cases, every-one}
+use Rattle.block.specs.TestLaws.{or-first, chain-first, chain-part, or-cases, every-one}
 use Rattle.block.specs.FlagLaws.{flag-bit, small-bit}
 
 -- a float's word
@@ -111,7 +112,7 @@ exponents n h =
     (λ p. rw (eqb-true n 0x3F00_0000 p) refl) (or-cases (a || b || c || d || e || f) g h)
 
 pub scale-is : (n : ℕ) → (eqb n 0 || (eqb (n % 0x80_0000) 0 && leb 125 (n / 0x80_0000) && leb (n / 0x80_0000) 130)) ≡ scaleFormed n
-scale-is n = same-bool _ _ from (exponents n)
+scale-is n = alike _ _ from (exponents n)
   where
     power : (eqb (n % 0x80_0000) 0 && leb 125 (n / 0x80_0000) && leb (n / 0x80_0000) 130) ≡ true → scaleFormed n ≡ true
     power h =

@@ -8,10 +8,11 @@ use mathlib.Core.List.{List, [], _∷_}
 use lib.Dec.{ltb, leb, eqb}
 use lib.ListN.{getD}
 use borrow.Author.Tests.{ltb-true}
+use Rattle.flags.specs.FlagsLaws.{both-first, both-second}
 use Rattle.lighting.specs.Forms.{every}
 use Rattle.lighting.specs.Lighting.{slotOf}
 use Rattle.block.specs.Block.{from, lookupAt, slotAt, zeros, bitAt, bumpFormed, shadowFormed, scaleFormed, paddingZero}
-use Rattle.block.specs.TestLaws.{both-first, both-second, _also_, chain-first, chain-part, every-one, every-of}
+use Rattle.block.specs.TestLaws.{_also_, chain-first, chain-part, every-one, every-of}
 use Rattle.block.specs.FormedLaws.{Shaped}
 use Rattle.block_check.specs.Steps.{optionsFormed, lookupFormed, lookupsFormed, headFormed, vectorsPadded, lightPadded, lightFormed, lightsFormed}
 

@@ -1,16 +1,17 @@
 -- Shading asks the head only for what it has in common with the whole lighting, so each part of shading is the same of both. The light of a lit slot is
 -- what its 36 words read as. Assumes nothing.
-use Prim.Native.Nat.{ℕ, zero, suc, _<_, _≤_}
+use Prim.Native.Nat.{ℕ, _<_, _≤_}
 use native.Mathlib.Omega.{arith}
-use mathlib.Core.Path.{_≡_, refl, ap, sym, _∙_}
-use mathlib.Core.Bool.{Bool, true, cond}
+use mathlib.Core.Path.{_≡_, refl, sym}
+use mathlib.Core.Bool.{true}
 use mathlib.Core.List.{List}
 use lib.ListN.{getD}
 use lib.Ieee.{Float}
 use borrow.Author.Tests.{lt-ltb, ltb-true}
-use Rattle.lighting.specs.Lighting.{blankLight, noLight, bumpUnit, shadowUnit, slotOf}
-use Rattle.block.specs.Block.{from, slotAt, wellFormed, blockLight, blockSlotLight, blockLights, blockLighting}
+use Rattle.lighting.specs.Lighting.{noLight, bumpUnit, shadowUnit, slotOf, lightAt}
+use Rattle.block.specs.Block.{from, slotAt, wellFormed, blockLight, blockLights, blockLighting}
 use Rattle.block.specs.FormedLaws.{formed-parts}
+use Rattle.block.specs.ReadLaws.{lit-light as lit-of-block}
 use Rattle.block.specs.WordLaws.{bump-unit-small, shadow-unit-small}
 use Rattle.shading.specs.Steps.{lightingLookups, lightingSettings, lightingFrame, lightingShadow, finishedOf, sumsBy, shadeBy, shadeOf}
 use Rattle.shading.specs.ShadeLaws.{shade-law}
@@ -27,22 +28,10 @@ module _ (w : ℕ → ℕ) where
   unfolding headOf blockLighting lightingLookups lightingSettings lightingFrame lightingShadow finishedOf shadeBy shadeOf
   head-shades tables quaternion view texels = sym (shade-law (blockLighting w) tables quaternion view texels)
 
-  slot : (s : ℕ) → s < 8 → getD (blockLights w) s noLight ≡ blockSlotLight w (slotOf s)
-  unfolding blockLights
-  slot zero h = refl
-  slot (suc zero) h = refl
-  slot (suc (suc zero)) h = refl
-  slot (suc (suc (suc zero))) h = refl
-  slot (suc (suc (suc (suc zero)))) h = refl
-  slot (suc (suc (suc (suc (suc zero))))) h = refl
-  slot (suc (suc (suc (suc (suc (suc zero)))))) h = refl
-  slot (suc (suc (suc (suc (suc (suc (suc zero))))))) h = refl
-  slot (suc (suc (suc (suc (suc (suc (suc (suc s)))))))) h = absurd (omega arith)
-
   -- the light of a lit slot
   pub lit-light : (s : ℕ) → s < w 1 → w 1 ≤ 8 → getD (blockLights w) s noLight ≡ blockLight (from w (slotAt (slotOf s)))
-  unfolding blockSlotLight
-  lit-light s h few = slot s (omega arith) ∙ ap (λ (b : Bool). cond b (blockLight (from w (slotAt (slotOf s)))) blankLight) (lt-ltb s (w 1) h)
+  unfolding lightAt blockLighting
+  lit-light s h few = lit-of-block w s (omega arith) (lt-ltb s (w 1) h)
 
   -- its number is one of eight
   pub lit-number : wellFormed w ≡ true → (s : ℕ) → s < w 1 → blockLight (from w (slotAt (slotOf s))) .number .0 < 8

@@ -5,20 +5,12 @@ use native.Mathlib.Omega.{arith}
 use native.Mathlib.Numerals.{add-one}
 use mathlib.Core.Path.{_≡_, refl, sym, ap}
 use mathlib.Core.List.{List, [], _∷_}
-use mathlib.Core.Bool.{Bool, true, false, _&&_}
+use mathlib.Core.Bool.{true}
 use borrow.Author.Tests.{eqb-true, leb-true}
 use lib.ListN.{length, getD, take, drop}
 use lib.Dec.{eqb, leb, ltb}
+use Rattle.flags.specs.FlagsLaws.{both-first, both-second}
 use Rattle.capture_check.specs.Contents.{Body, triple, triples, bodyCount, contents, contentsEnd, wordsIn, sized, lies, gapless, shaped}
-
-both-left : (a b : Bool) → (a && b) ≡ true → a ≡ true
-both-left true b e = refl
-both-left false b e = e
-
-both-right : (a b : Bool) → (a && b) ≡ true → b ≡ true
-both-right true b e = e
-both-right false true e = refl
-both-right false false e = e
 
 -- ---- the triples, one by one
 
@@ -47,20 +39,20 @@ contents-count w = triples-count w 0 (bodyCount w)
 
 lies-offset : (b : Body) (at end : ℕ) → lies b at end ≡ true → b .offset ≡ at
 unfolding lies
-lies-offset b at end e = eqb-true (b .offset) at (both-left (eqb (b .offset) at) _ e)
+lies-offset b at end e = eqb-true (b .offset) at (both-first (eqb (b .offset) at) _ e)
 
 pub lies-end : (b : Body) (at end : ℕ) → lies b at end ≡ true → at + b .size ≤ end
 unfolding lies
 lies-end b at end e =
-    leb-true (at + b .size) end (both-left (leb (at + b .size) end) _ (both-right (eqb (b .offset) at) _ e))
+    leb-true (at + b .size) end (both-first (leb (at + b .size) end) _ (both-second (eqb (b .offset) at) _ e))
 
 pub gapless-head : (b : Body) (bs : List Body) (at end : ℕ) → gapless (b ∷ bs) at end ≡ true → lies b at end ≡ true
 unfolding gapless
-gapless-head b bs at end e = both-left (lies b at end) _ e
+gapless-head b bs at end e = both-first (lies b at end) _ e
 
 pub gapless-rest : (b : Body) (bs : List Body) (at end : ℕ) → gapless (b ∷ bs) at end ≡ true → gapless bs (at + b .size) end ≡ true
 unfolding gapless
-gapless-rest b bs at end e = both-right (lies b at end) _ e
+gapless-rest b bs at end e = both-second (lies b at end) _ e
 
 -- body i of n, which is due at `at` of `end` words, its size s being read from the contents
 module _ (w : List ℕ) (i n at end s : ℕ) (h : i < n) (g : gapless (triples w i (n - i)) at end ≡ true) (q : s ≡ getD w (3 + 3 * i) 0) where
@@ -84,13 +76,13 @@ module _ (w : List ℕ) (i n at end s : ℕ) (h : i < n) (g : gapless (triples w
 pub shaped-end : (w : List ℕ) → shaped w ≡ true → contentsEnd (bodyCount w) ≤ length w
 unfolding shaped
 shaped-end w e =
-    leb-true _ _ (both-left (leb (contentsEnd (bodyCount w)) (length w)) _ (both-right (leb (bodyCount w) 16) _ e))
+    leb-true _ _ (both-first (leb (contentsEnd (bodyCount w)) (length w)) _ (both-second (leb (bodyCount w) 16) _ e))
 
 pub shaped-gapless : (w : List ℕ) → shaped w ≡ true → gapless (contents w) (contentsEnd (bodyCount w)) (length w) ≡ true
 unfolding shaped
 shaped-gapless w e =
-    both-right (leb (contentsEnd (bodyCount w)) (length w)) _ (both-right (leb (bodyCount w) 16) _ e)
+    both-second (leb (contentsEnd (bodyCount w)) (length w)) _ (both-second (leb (bodyCount w) 16) _ e)
 
 pub sized-most : (n : ℕ) → sized n ≡ true → n ≤ 65536
 unfolding sized
-sized-most n e = leb-true n 65536 (both-left (leb n 65536) _ (both-right (ltb 0 n) _ e))
+sized-most n e = leb-true n 65536 (both-first (leb n 65536) _ (both-second (ltb 0 n) _ e))

@@ -12,6 +12,12 @@ pub both-true : (a b : Bool) → (a && b) ≡ true → (a ≡ true) × (b ≡ tr
 both-true true b h = (refl, h)
 both-true false b h = absurd (false≢true h)
 
+pub both-first : (a b : Bool) → (a && b) ≡ true → a ≡ true
+both-first a b h = both-true a b h .0
+
+pub both-second : (a b : Bool) → (a && b) ≡ true → b ≡ true
+both-second a b h = both-true a b h .1
+
 -- two that imply each other are the same
 pub alike : (a b : Bool) → (a ≡ true → b ≡ true) → (b ≡ true → a ≡ true) → a ≡ b
 alike true b f g = sym (f refl)

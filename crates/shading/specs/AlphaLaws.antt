@@ -2,7 +2,7 @@
 use Prim.Native.Nat.{ℕ, zero, suc}
 use mathlib.Core.Path.{_≡_, refl, ap, _∙_}
 use mathlib.Core.List.{List}
-use mathlib.Core.Bool.{Bool, true, false, _&&_}
+use mathlib.Core.Bool.{false, and-false}
 use lib.ListN.{getD}
 use lib.Ieee.{Float, ofBits, lt, mul, toUnsigned}
 use Rattle.binary32.specs.Binary32.{float1, clampOf, quantizedOf}
@@ -17,10 +17,6 @@ use Rattle.shading.specs.Shade.{shade}
 use Rattle.shading.specs.ShadeLaws.{shade-law}
 use Rattle.shading.specs.Steps.{shadowedAlpha, finishOf, lightingSettings, finishedOf, sumsBy, shadeBy, shadeOf}
 
-neither : (b : Bool) → (b && false) ≡ false
-neither true = refl
-neither false = refl
-
 one : quantizedOf float1 ≡ 255
 unfolding quantizedOf clampOf lt ofBits mul toUnsigned
 one = refl
@@ -29,29 +25,29 @@ module _ (tables : List ℕ) (lookups : LightingLookups) (frame : Frame) (settin
   diffuse-alpha : settings .«fresnel_sets_primary» ≡ false → (k : ℕ) → at (sumsBy tables lookups frame settings lights count k .diffuse) 3 ≡ float1
   unfolding sumsBy stepOf withValues withValuesBy summedOf addedOf
   diffuse-alpha h zero = refl
-  diffuse-alpha h (suc k) = simp (h, neither) (diffuse-alpha h k)
+  diffuse-alpha h (suc k) = simp (h, and-false) (diffuse-alpha h k)
 
   specular-alpha : settings .«fresnel_sets_secondary» ≡ false → (k : ℕ) → at (sumsBy tables lookups frame settings lights count k .specular) 3 ≡ float1
   unfolding sumsBy stepOf withValues withValuesBy summedOf addedOf
   specular-alpha h zero = refl
-  specular-alpha h (suc k) = simp (h, neither) (specular-alpha h k)
+  specular-alpha h (suc k) = simp (h, and-false) (specular-alpha h k)
 
 primary-clear : (l : Lighting) (shadow : List Float) → l .«fresnel_primary» ≡ false → lightingSettings l shadow .«fresnel_sets_primary» ≡ false
 unfolding lightingSettings
-primary-clear l shadow h = simp (h, neither)
+primary-clear l shadow h = simp (h, and-false)
 
 secondary-clear : (l : Lighting) (shadow : List Float) → l .«fresnel_secondary» ≡ false → lightingSettings l shadow .«fresnel_sets_secondary» ≡ false
 unfolding lightingSettings
-secondary-clear l shadow h = simp (h, neither)
+secondary-clear l shadow h = simp (h, and-false)
 
 module _ (l : Lighting) (tables : List ℕ) (quaternion view : List Float) (textures : List (List Float)) where
   primary-steps : l .«fresnel_primary» ≡ false → getD (shadeOf l tables quaternion view textures) 3 0 ≡ 255
   unfolding shadeOf shadeBy finishedOf finishOf shadowedAlpha
-  primary-steps h = simp (h, neither) (ap quantizedOf (diffuse-alpha tables _ _ _ _ _ (primary-clear l _ h) _) ∙ one)
+  primary-steps h = simp (h, and-false) (ap quantizedOf (diffuse-alpha tables _ _ _ _ _ (primary-clear l _ h) _) ∙ one)
 
   secondary-steps : l .«fresnel_secondary» ≡ false → getD (shadeOf l tables quaternion view textures) 7 0 ≡ 255
   unfolding shadeOf shadeBy finishedOf finishOf shadowedAlpha
-  secondary-steps h = simp (h, neither) (ap quantizedOf (specular-alpha tables _ _ _ _ _ (secondary-clear l _ h) _) ∙ one)
+  secondary-steps h = simp (h, and-false) (ap quantizedOf (specular-alpha tables _ _ _ _ _ (secondary-clear l _ h) _) ∙ one)
 
   pub primary-alpha : l .«fresnel_primary» ≡ false → getD (shade l tables quaternion view textures) 3 0 ≡ 255
   primary-alpha h = ap (λ (k : List ℕ). getD k 3 0) (shade-law l tables quaternion view textures) ∙ primary-steps h

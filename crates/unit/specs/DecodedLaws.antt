@@ -9,6 +9,7 @@ use lib.Dec.{T}
 use lib.ListN.{length, replicate, length-replicate}
 use lib.Ieee.{Float, binary32, fits, ofBits, toBits}
 use borrow.Author.Tests.{lt-ltb, le-leb}
+use Rattle.flags.specs.FlagsLaws.{both-second}
 use Rattle.binary32.specs.Binary32.{wordOf}
 use Rattle.lighting.specs.declared.Lookup.{Lookup}
 use Rattle.lighting.specs.declared.OptionalLookup.{OptionalLookup}
@@ -28,7 +29,7 @@ use Rattle.decoding.specs.LimitLaws.{scale-each, scale-fits}
 use Rattle.block.specs.Block.{packed, words, allZero, scaleFormed, wellFormed, blockReading, accepted, packedReading}
 use Rattle.block.specs.Steps.{lookupAcceptable, optionalLookupAcceptable, acceptable}
 use Rattle.block.specs.Claims.{BlankBeyond}
-use Rattle.block.specs.TestLaws.{_also_, both-second, or-second, every-of}
+use Rattle.block.specs.TestLaws.{_also_, or-second, every-of}
 use Rattle.block.specs.ListLaws.{length-packed}
 use Rattle.block.specs.PackedLaws.{packed-reads}
 use Rattle.unit.specs.Unit.{packable}

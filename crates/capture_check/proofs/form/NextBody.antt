@@ -1,16 +1,12 @@
 -- A turn of the loop over bodies: one that lies where it is due takes what the rest says to the next place, and one that does not ends it.
 -- Each by the first triple that is still to come. Assumes nothing.
 use Prim.Native.Nat.{ℕ, _+_, _-_, _*_, _<_}
-use mathlib.Core.Path.{_≡_, refl}
+use mathlib.Core.Path.{_≡_}
 use mathlib.Core.List.{List}
-use mathlib.Core.Bool.{Bool, true, false, _&&_}
+use mathlib.Core.Bool.{true, false}
 use lib.ListN.{getD}
 use Rattle.capture_check.specs.Contents.{body, triple, triples, lies, gapless}
 use Rattle.capture_check.specs.ContentsLaws.{triples-more}
-
-pub both-none : (a : Bool) → (a && false) ≡ false
-both-none true = refl
-both-none false = refl
 
 -- offset o and size s are read from the contents
 module _ (w : List ℕ) (i n at end o s : ℕ) (h : i < n) (p : o ≡ getD w (2 + 3 * i) 0) (q : s ≡ getD w (3 + 3 * i) 0) where

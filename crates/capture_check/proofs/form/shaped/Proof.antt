@@ -1,9 +1,9 @@
 -- `form::shaped` meets its contract. Each test is the definition's; no words at all are too few for any contents. Assumes nothing.
+use mathlib.Core.Bool.{and-false}
 use native.Mathlib.Omega.{arith}
 use borrow.Author.Tests.{le-leb, lt-leb}
 use lib.ListN.{length}
 use Rattle.capture_check.specs.Contents.{shaped, contentsEnd, bodyCount}
-use Rattle.capture_check.proofs.form.NextBody.{both-none}
 use borrow.Author.Needs.{needs}
 use Rattle.capture_check.proofs.form.shaped.Statement.{statement}
 use Rattle.capture_check.proofs.form.shaped.Tie as tie
@@ -12,7 +12,7 @@ returns : tie.Need-returns
 unfolding shaped
 returns c =
     let w = c .before .before .args .words .now in
-    simp (lt-leb (contentsEnd (bodyCount w)) (length w) (omega arith), both-none)
+    simp (lt-leb (contentsEnd (bodyCount w)) (length w) (omega arith), and-false)
 
 shared-slice-read-wide : tie.Need-shared-slice-read-wide
 shared-slice-read-wide c = search needs
