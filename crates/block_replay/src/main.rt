@@ -128,17 +128,8 @@ fn replay(words: &[u32]) -> Count {
 }
 
 fn main() {
-    let name = b"files.txt";
-    let fd = os::open_read(name);
-    if fd < 0 {
-        os::fail(name);
-        return;
-    }
-    let mut text = io::large_buffer();
-    let n = io::read_full(fd, &mut text);
-    libc::close(fd);
     let mut words = [0u32; 16384];
-    let size = word_text::load(&text[..n], &mut words);
+    let size = word_text::load_file(b"files.txt", &mut words);
     let count = replay(&words[..size]);
     io::print_decimal(STDOUT_FILENO, count.files);
     io::write_all(STDOUT_FILENO, b" files replayed, ");

@@ -26,19 +26,21 @@ fn byte(word: u32) -> u8 {
     (word % 256) as u8
 }
 
-// A word's four bytes, the lowest first, at the end of the capture's; the place after them. What the buffer can't take is left out.
+// A byte at the end of the capture's; the place after it. What the buffer can't take is left out.
+fn put_byte(input: &mut [u8], at: usize, b: u8) -> usize {
+    if at < input.len() {
+        input[at] = b;
+        return at + 1;
+    }
+    at
+}
+
+// A word's four bytes, the lowest first.
 fn put_word(input: &mut [u8], at: usize, word: u32) -> usize {
-    if at >= input.len() {
-        return at;
-    }
-    if input.len() - at < 4 {
-        return at;
-    }
-    input[at] = byte(word);
-    input[at + 1] = byte(word / 0x100);
-    input[at + 2] = byte(word / 0x1_0000);
-    input[at + 3] = byte(word / 0x100_0000);
-    at + 4
+    let second = put_byte(input, at, byte(word));
+    let third = put_byte(input, second, byte(word / 0x100));
+    let fourth = put_byte(input, third, byte(word / 0x1_0000));
+    put_byte(input, fourth, byte(word / 0x100_0000))
 }
 
 // So many words of the list.
@@ -148,17 +150,8 @@ fn replay(words: &[u32], input: &mut [u8]) -> u64 {
 }
 
 fn main() {
-    let name = b"captures.txt";
-    let fd = os::open_read(name);
-    if fd < 0 {
-        os::fail(name);
-        return;
-    }
-    let mut text = [0u8; 262144];
-    let n = io::read_full(fd, &mut text);
-    libc::close(fd);
     let mut words = [0u32; 32768];
-    let size = word_text::load(&text[..n], &mut words);
+    let size = word_text::load_file(b"captures.txt", &mut words);
     let mut input = [0u8; 66560];
     let ran = replay(&words[..size], &mut input);
     io::print_decimal(STDOUT_FILENO, ran);

@@ -68,29 +68,17 @@ fn compare(words: &[u32], operation: Operation) -> Count {
     count
 }
 
-// Reads one file and prints its line. A file that fills the buffer is said to be too long.
+// Reads one file and prints its line.
 fn compare_file(name: &[u8], operation: Operation) {
-    let fd = os::open_read(name);
-    if fd < 0 {
-        os::fail(name);
-        return;
-    }
-    let mut text = io::large_buffer();
-    let n = io::read_full(fd, &mut text);
-    libc::close(fd);
     let mut words = [0u32; 8192];
-    let size = word_text::load(&text[..n], &mut words);
+    let size = word_text::load_file(name, &mut words);
     let count = compare(&words[..size], operation);
     io::write_all(STDOUT_FILENO, name);
     io::write_all(STDOUT_FILENO, b": ");
     io::print_decimal(STDOUT_FILENO, count.compared);
     io::write_all(STDOUT_FILENO, b" compared, ");
     io::print_decimal(STDOUT_FILENO, count.differ);
-    io::write_all(STDOUT_FILENO, b" differ");
-    if n == 65536 {
-        io::write_all(STDOUT_FILENO, b", too long to be read whole");
-    }
-    io::write_all(STDOUT_FILENO, b"\n");
+    io::write_all(STDOUT_FILENO, b" differ\n");
 }
 
 fn main() {

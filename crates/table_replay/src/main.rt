@@ -201,17 +201,8 @@ fn replay(file: &mut [u32], entries: &mut [u32], words: &[u32]) -> Count {
 }
 
 fn main() {
-    let name = b"calls.txt";
-    let fd = os::open_read(name);
-    if fd < 0 {
-        os::fail(name);
-        return;
-    }
-    let mut text = io::large_buffer();
-    let n = io::read_full(fd, &mut text);
-    libc::close(fd);
     let mut words = [0u32; 8192];
-    let size = word_text::load(&text[..n], &mut words);
+    let size = word_text::load_file(b"calls.txt", &mut words);
     let mut file = [0u32; 474];
     let mut entries = [0u32; 12288];
     let count = replay(&mut file, &mut entries, &words[..size]);

@@ -1,4 +1,5 @@
 // Words written as text, eight hexadecimal digits each, which the replayed lists of data/ are made of: a library for tests alone.
+use libc::STDOUT_FILENO;
 ghost use mathlib.Core.Path.{_≡_};
 ghost use Prim.Native.Nat.{_≤_};
 ghost use lib.ListN.{length, take, drop};
@@ -105,7 +106,7 @@ fn next_word(text: &[u8], at: usize) -> Next
 }
 
 // The words of a text into the front of `out`, until that is full, the text ends, or something else than a word stands there; how many there are.
-pub fn load(text: &[u8], out: &mut [u32]) -> usize
+fn load(text: &[u8], out: &mut [u32]) -> usize
     ensures { λ r. ⌜ loadedAs r (now (out .exit)) ≡ loaded (length (now (out .entry))) (now (text .entry)) 0 0 (now (out .entry)) ⌝ }
     ensures { λ r. ⌜ (r ≤ length (now (out .exit))) × (r ≡ length (take r (now (out .exit)))) ⌝ }
 {
@@ -127,4 +128,23 @@ pub fn load(text: &[u8], out: &mut [u32]) -> usize
         }
     }
     n
+}
+
+// The words of a file, so loaded; none where it can't be opened. One that is too long to be read whole is said to be.
+pub fn load_file(name: &[u8], out: &mut [u32]) -> usize
+    ensures { λ r. ⌜ (r ≤ length (now (out .exit))) × (r ≡ length (take r (now (out .exit)))) ⌝ }
+{
+    let fd = os::open_read(name);
+    if fd < 0 {
+        os::fail(name);
+        return 0;
+    }
+    let mut text = [0u8; 262144];
+    let n = io::read_full(fd, &mut text);
+    libc::close(fd);
+    if n == 262144 {
+        io::write_all(STDOUT_FILENO, name);
+        io::write_all(STDOUT_FILENO, b" is too long to be read whole\n");
+    }
+    load(&text[..n], out)
 }
