@@ -1,13 +1,13 @@
 // The shading of a fragment's words: from a lighting that was read already, and from a block that was found well formed, whose lights are read slot by slot,
 // where they are needed. The block, the tables and the fragment come as words or as bytes.
 use block_reading::light::light_of;
+use light_steps::types::LightingLookups;
+use light_steps::types::Settings;
+use light_steps::types::Sums;
 use lighting::Lighting;
 use lighting::Slot;
 use lighting::blank_light;
-use surface::types::Frame;
-use surface::types::LightingLookups;
-use surface::types::Settings;
-use surface::types::Sums;
+use surface::Frame;
 ghost use mathlib.Core.Path.{_≡_};
 ghost use mathlib.Core.Bool.{true};
 ghost use Prim.Native.Nat.{_≤_};

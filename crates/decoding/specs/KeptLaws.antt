@@ -37,6 +37,9 @@ kept-length : (f : List ℕ) → length (registersRead f) ≡ 3 + min 133 (lengt
 unfolding registersRead
 kept-length f = simp (length-append, length-take, length-drop) (omega arith)
 
+pub kept-whole : (f : List ℕ) → 474 ≤ length f → length (registersRead f) ≡ 139
+kept-whole f h = kept-length f ∙ omega arith
+
 -- the tables' part is empty, or the lights' is whole
 one-whole : (m : ℕ) → (min 3 (m - 464) ≡ 0) ⊎ (min 133 (m - 320) ≡ 133)
 one-whole m = go (leb m 464) refl

@@ -6,12 +6,12 @@ use mathlib.Core.List.{List}
 use mathlib.Core.Bool.{Bool}
 use lib.Ieee.{Float}
 use Rattle.lighting.specs.declared.Light.{Light}
-use Rattle.surface.specs.declared.types.Frame.{Frame}
-use Rattle.surface.specs.declared.types.Directions.{Directions}
-use Rattle.surface.specs.declared.types.Ray.{Ray}
-use Rattle.surface.specs.declared.types.Reading.{Reading}
-use Rattle.light_tables.specs.Steps.{directionsBy, directionsOf, rayTo, distanceReadingBy, readValue}
-use Rattle.light_steps.specs.Steps.{distanceReading}
+use Rattle.surface.specs.declared.Frame.{Frame}
+use Rattle.surface.specs.declared.Directions.{Directions}
+use Rattle.surface.specs.declared.Ray.{Ray}
+use Rattle.light_steps.specs.declared.types.Reading.{Reading}
+use Rattle.light_steps.specs.Steps.{distanceReadingBy, readValue, distanceReading}
+use Rattle.surface.specs.Steps.{directionsBy, directionsOf, rayTo}
 use Rattle.light_steps.specs.ReadingsLaws.{distance-by}
 
 pub directions-is : (light : Light) (frame : Frame) (needed : Bool) (ray : Ray) (directions : Directions)

@@ -16,15 +16,15 @@ use Rattle.lighting.specs.declared.OptionalLookup.{OptionalLookup}
 use Rattle.lighting.specs.declared.OptionalLookup.the-variants.{Missing, Present}
 use Rattle.lighting.specs.declared.Distance.{Distance}
 use Rattle.lighting.specs.declared.Distance.the-variants.{Without, Scaled}
-use Rattle.surface.specs.declared.types.Frame.{Frame}
-use Rattle.surface.specs.declared.types.Directions.{Directions}
-use Rattle.light_tables.specs.Steps.{offsetNorm, rayTo, tableFor, readingBy, readingIf, spotReading, fresnelReading, readingsBy, readingsOf, readValue, readAll, distanceReadingBy}
-use Rattle.light_tables.specs.RayLaws.{norm-is}
-use Rattle.surface.specs.declared.types.LightingLookups.{LightingLookups}
-use Rattle.surface.specs.declared.types.Reading.the-variants.{Unread}
+use Rattle.surface.specs.declared.Frame.{Frame}
+use Rattle.surface.specs.declared.Directions.{Directions}
+use Rattle.light_steps.specs.Steps.{tableFor, readingBy, readingIf, spotReading, fresnelReading, readingsBy, readingsOf, readValue, readAll, distanceReadingBy, present, readsTables, scaledIf, spotScaled, fresnelScaled, valuesFrom, unread, lookupValue, valueIf, spotValue, fresnelValue, distanceBy, distanceValue, valuesBy, valuesOf, distanceReading}
+use Rattle.surface.specs.Steps.{offsetNorm, rayTo}
+use Rattle.surface.specs.RayLaws.{norm-is}
+use Rattle.light_steps.specs.declared.types.LightingLookups.{LightingLookups}
+use Rattle.light_steps.specs.declared.types.Reading.the-variants.{Unread}
 use Rattle.vectors.specs.Vectors.{_⊗_}
 use Rattle.lighting.specs.Lighting.{tableFresnel}
-use Rattle.light_steps.specs.Steps.{present, readsTables, scaledIf, spotScaled, fresnelScaled, valuesFrom, unread, lookupValue, valueIf, spotValue, fresnelValue, distanceBy, distanceValue, valuesBy, valuesOf, distanceReading}
 
 table-is : (first : ℕ) (number : LightNumber) → number .0 < 8 → tableFor first number ≡ first + number .0
 unfolding tableFor

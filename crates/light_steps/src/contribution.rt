@@ -1,15 +1,16 @@
 // A light's contribution to the sums of a fragment.
 ghost use mathlib.Core.Path.{_≡_};
 ghost use Rattle.light_steps.specs.Steps.{unread, shadowFor, addedOf, summedOf, withTerms, withValues};
+use crate::facing::facing_of;
 use crate::terms;
+use crate::types::Settings;
+use crate::types::Sums;
+use crate::types::Values;
 use crate::values;
 use flags::both;
 use flags::either;
 use lighting::Light;
-use surface::types::Directions;
-use surface::types::Settings;
-use surface::types::Sums;
-use surface::types::Values;
+use surface::Directions;
 
 fn shadow_for(shadowed: bool, shadow: [f32; 4]) -> [f32; 3]
     ensures { λ r. ⌜ r ≡ shadowFor shadowed shadow ⌝ }
@@ -97,7 +98,7 @@ pub(crate) fn with_values(
 {
     let light_vector = directions.light_vector;
     let half = directions.half;
-    let facing = surface::facing::facing_of(light.two_sided, vectors::dot(light_vector, normal));
+    let facing = facing_of(light.two_sided, vectors::dot(light_vector, normal));
     let p = terms::diffuse(light, facing, v.distance, v.spot);
     let q = terms::specular(light, half, v, settings.clamp_highlights, facing);
     with_terms(sums, p, q, light.shadowed, settings, last, v.fresnel)
@@ -119,7 +120,7 @@ pub(crate) fn with_unread(
     let v = values::unread(distance);
     let light_vector = directions.light_vector;
     let half = directions.half;
-    let facing = surface::facing::facing_of(light.two_sided, vectors::dot(light_vector, normal));
+    let facing = facing_of(light.two_sided, vectors::dot(light_vector, normal));
     let p = terms::diffuse(light, facing, v.distance, v.spot);
     let q = terms::specular(light, half, v, settings.clamp_highlights, facing);
     with_terms(sums, p, q, light.shadowed, settings, last, v.fresnel)

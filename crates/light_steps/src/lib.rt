@@ -1,33 +1,36 @@
-// What one light adds to a fragment's sums, its tables being read: `values` makes of the entries what the lookups say, `terms` the light's terms of them, `contribution` the
-// sums with these.
+// What one light adds to a fragment's sums. To be read in the order of the data: `facing` is how much a surface faces the light, `inputs` has the dot products,
+// `places` where one lookup is read, `distance` and `readings` where all are, `entries` what stands there; `values` makes of the entries what the lookups say, `terms` the light's terms of
+// them, `contribution` the sums with these. `types` is what one step passes to the next.
 mod contribution;
+mod distance;
+mod entries;
+mod facing;
+mod inputs;
+mod places;
+mod readings;
 mod terms;
+pub mod types;
 pub mod values;
 
 ghost use mathlib.Core.Path.{_≡_};
 ghost use Prim.Native.Nat.{_<_};
 ghost use lib.ListN.{length};
 ghost use Rattle.sources.specs.Steps.{given};
-ghost use Rattle.light_tables.specs.Steps.{distanceReadingBy, readValue};
-ghost use Rattle.light_steps.specs.Steps.{distanceReading, valuesOf, stepOf};
+ghost use Rattle.light_steps.specs.Steps.{distanceReadingBy, readValue, distanceReading, valuesOf, stepOf};
+use crate::types::LightingLookups;
+use crate::types::Settings;
+use crate::types::Sums;
+use crate::types::Values;
 use lighting::Light;
-use surface::types::Directions;
-use surface::types::Frame;
-use surface::types::LightingLookups;
-use surface::types::Settings;
-use surface::types::Sums;
-use surface::types::Values;
+use surface::Directions;
+use surface::Frame;
 
 // What a light whose ray has this norm reads from its distance table.
 fn distance_of(tables: &[u32], bytes: &[u8], light: Light, norm: f32) -> f32
     requires { ⌜ length (given (now tables) (now bytes)) ≡ 12288 ⌝ }
     ensures { λ r. ⌜ r ≡ readValue (given (now (tables .entry)) (now (bytes .entry))) (distanceReadingBy (light .distance) (light .number) norm) ⌝ }
 {
-    light_tables::entries::read(
-        tables,
-        bytes,
-        light_tables::distance::distance_reading(light, norm),
-    )
+    entries::read(tables, bytes, distance::distance_reading(light, norm))
 }
 
 // What a light reads from the tables, given its distance.
@@ -44,8 +47,8 @@ fn values_of(
     requires { ⌜ (length (given (now tables) (now bytes)) ≡ 12288) × (light .number .0 < 8) × (distance ≡ readValue (given (now tables) (now bytes)) (distanceReading light (frame .view))) ⌝ }
     ensures { λ r. ⌜ r ≡ valuesOf (given (now (tables .entry)) (now (bytes .entry))) lookups frame directions light last ⌝ }
 {
-    let readings = light_tables::readings::readings_of(lookups, frame, directions, light, last);
-    let read = light_tables::entries::read_all(tables, bytes, readings, distance);
+    let readings = readings::readings_of(lookups, frame, directions, light, last);
+    let read = entries::read_all(tables, bytes, readings, distance);
     values::values_from(lookups, light, read, last)
 }
 
@@ -67,11 +70,11 @@ pub fn step(
 {
     let normal = frame.normal;
     let view = frame.view;
-    let ray = light_tables::light::ray_to(light, view);
+    let ray = surface::light::ray_to(light, view);
     let vector = ray.vector;
     let distance = distance_of(tables, bytes, light, ray.norm);
     if values::reads_tables(lookups, light) {
-        let directions = light_tables::light::directions_of(vector, frame, lookups.needs_half);
+        let directions = surface::light::directions_of(vector, frame, lookups.needs_half);
         let values = values_of(
             tables,
             bytes,
@@ -84,7 +87,7 @@ pub fn step(
         );
         contribution::with_values(sums, light, normal, directions, values, settings, last)
     } else {
-        let directions = light_tables::light::directions_of(vector, frame, lookups.needs_half);
+        let directions = surface::light::directions_of(vector, frame, lookups.needs_half);
         contribution::with_unread(sums, light, normal, directions, distance, settings, last)
     }
 }

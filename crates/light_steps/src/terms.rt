@@ -1,8 +1,10 @@
 // The terms of one light: what it adds to the diffuse and to the specular sum, before any shadow.
 ghost use mathlib.Core.Path.{_≡_};
 ghost use Rattle.light_steps.specs.Steps.{diffuseOf, timesIf, reflectedOf, specularBy, specularOf};
+use crate::facing::factor_by;
+use crate::facing::highlights_of;
+use crate::types::Values;
 use lighting::Light;
-use surface::types::Values;
 
 pub(crate) fn diffuse(light: Light, facing: f32, distance: f32, spot: f32) -> [f32; 3]
     ensures { λ r. ⌜ r ≡ diffuseOf light facing distance spot ⌝ }
@@ -58,11 +60,11 @@ pub(crate) fn specular(
 {
     let specular0 = light.specular0;
     let specular1 = light.specular1;
-    let highlights = surface::facing::highlights_of(clamp, facing);
+    let highlights = highlights_of(clamp, facing);
     let s = vectors::times(specular0, v.distribution0);
     let t = reflected(specular1, v);
     if flags::either(light.geometric0, light.geometric1) {
-        let factor = surface::facing::factor_by(facing, vectors::dot(half, half));
+        let factor = factor_by(facing, vectors::dot(half, half));
         let u = times_if(light.geometric0, s, factor);
         let w = times_if(light.geometric1, t, factor);
         return specular_by(u, w, highlights, v.distance, v.spot);

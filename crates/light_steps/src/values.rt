@@ -1,13 +1,13 @@
 // The values that a light takes from its lookups: whether it reads any table, and what is made of the entries that were read.
 ghost use mathlib.Core.Path.{_≡_};
 ghost use Rattle.light_steps.specs.Steps.{present as presentOf, readsTables, scaledIf, spotScaled, fresnelScaled, valuesFrom, unread as unreadOf};
+use crate::types::EntryValues;
+use crate::types::LightingLookups;
+use crate::types::Values;
 use flags::either;
 use lighting::Light;
 use lighting::Lookup;
 use lighting::OptionalLookup;
-use surface::types::EntryValues;
-use surface::types::LightingLookups;
-use surface::types::Values;
 
 pub fn present(lookup: OptionalLookup) -> bool
     ensures { λ r. ⌜ r ≡ presentOf lookup ⌝ }

@@ -9,9 +9,9 @@ use Rattle.binary32.specs.Binary32.{float1, clampOf, quantizedOf}
 use Rattle.vectors.specs.Vectors.{at}
 use Rattle.lighting.specs.declared.Light.{Light}
 use Rattle.lighting.specs.declared.Lighting.{Lighting}
-use Rattle.surface.specs.declared.types.Frame.{Frame}
-use Rattle.surface.specs.declared.types.LightingLookups.{LightingLookups}
-use Rattle.surface.specs.declared.types.Settings.{Settings}
+use Rattle.surface.specs.declared.Frame.{Frame}
+use Rattle.light_steps.specs.declared.types.LightingLookups.{LightingLookups}
+use Rattle.light_steps.specs.declared.types.Settings.{Settings}
 use Rattle.light_steps.specs.Steps.{addedOf, summedOf, withValuesBy, withValues, stepOf}
 use Rattle.shading.specs.Shade.{shade}
 use Rattle.shading.specs.ShadeLaws.{shade-law}

@@ -24,13 +24,12 @@ use Rattle.lighting.specs.declared.OptionalLookup.the-variants.{Missing, Presen
 use Rattle.lighting.specs.declared.OptionalShadow.{OptionalShadow}
 use Rattle.lighting.specs.declared.OptionalShadow.the-variants.{Unshadowed, Shadowed}
 use Rattle.lighting.specs.Lighting.{slotOf, bumpUnit, shadowUnit, lightAt, tableDistribution0, tableDistribution1, tableFresnel, tableReflectBlue, tableReflectGreen, tableReflectRed, tableSpotlight}
-use Rattle.surface.specs.declared.types.Frame.{Frame}
-use Rattle.surface.specs.declared.types.Sums.{Sums}
-use Rattle.surface.specs.declared.types.Values.{Values}
-use Rattle.surface.specs.Steps.{inverted, shadowTexel, primaryOf, secondaryOf, alphaOf, perturbed, rebuiltZ, rebuilt, surfaceNormal, surfaceTangent, facingOf, highlightsOf, factorBy, factorOf, quaternionNorm, quaternionOver, unitQuaternion, tangentOf, unitIf, frameOf}
-use Rattle.light_tables.specs.Steps.{lightVector, halfOf, directionsOf, offsetOf, offsetNorm, placeOf, inputOf, distancePlace, alongTangent, inputsBy, inputsOf}
-use Rattle.light_steps.specs.Steps.{present, diffuseOf, timesIf, specular0Of, reflectedOf, specular1Of, specularBy, specularOf, shadowFor, addedOf, summedOf, withValues, withValuesBy, stepOf, lookupValue, valueIf, distanceBy, spotValue, fresnelValue, distanceValue, valuesBy, valuesOf}
-use Rattle.shading.specs.Steps.{texelOf, lightingLookups, lightingSettings, lightingFrame, lightingShadow, finishedOf, shadowedAlpha, finishOf, sumsBy, shadeBy, shadeOf}
+use Rattle.surface.specs.declared.Frame.{Frame}
+use Rattle.light_steps.specs.declared.types.Sums.{Sums}
+use Rattle.light_steps.specs.declared.types.Values.{Values}
+use Rattle.surface.specs.Steps.{inverted, shadowTexel, perturbed, rebuiltZ, rebuilt, surfaceNormal, surfaceTangent, quaternionNorm, quaternionOver, unitQuaternion, tangentOf, unitIf, frameOf, lightVector, halfOf, directionsOf, offsetOf, offsetNorm}
+use Rattle.shading.specs.Steps.{primaryOf, secondaryOf, alphaOf, texelOf, lightingLookups, lightingSettings, lightingFrame, lightingShadow, finishedOf, shadowedAlpha, finishOf, sumsBy, shadeBy, shadeOf}
+use Rattle.light_steps.specs.Steps.{facingOf, highlightsOf, factorBy, factorOf, placeOf, inputOf, distancePlace, alongTangent, inputsBy, inputsOf, present, diffuseOf, timesIf, specular0Of, reflectedOf, specular1Of, specularBy, specularOf, shadowFor, addedOf, summedOf, withValues, withValuesBy, stepOf, lookupValue, valueIf, distanceBy, spotValue, fresnelValue, distanceValue, valuesBy, valuesOf}
 use Rattle.shading.specs.Shade.{mapOr, isSomeAnd, shadowOf, bumped, surfaceNormalOf, surfaceTangentOf, lookupAt, distanceOf, sided, valueOf, resultsOf, withLight, withLights, shade}
 
 -- ---- before the lights

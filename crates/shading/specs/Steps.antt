@@ -1,7 +1,7 @@
 -- What the code computes of a fragment's shading, step by step; nobody has to trust it: `shade-law` (ShadeLaws) ties it to Shade. Definitions only.
 use Prim.Native.Nat.{ℕ, zero, suc, _<_}
 use mathlib.Core.List.{List, [], _∷_}
-use mathlib.Core.Bool.{Bool, cond, _&&_}
+use mathlib.Core.Bool.{Bool, false, cond, _&&_}
 use lib.Dec.{eqb}
 use lib.ListN.{getD}
 use lib.Ieee.{Float}
@@ -10,12 +10,28 @@ use Rattle.vectors.specs.Vectors.{at, _⊕_, _⊗_}
 use Rattle.lighting.specs.Lighting.{bumpUnit, shadowUnit, noLight}
 use Rattle.lighting.specs.declared.Light.{Light}
 use Rattle.lighting.specs.declared.Lighting.{Lighting}
-use Rattle.surface.specs.Steps.{shadowTexel, primaryOf, secondaryOf, alphaOf, frameOf}
-use Rattle.surface.specs.declared.types.Frame.{Frame}
-use Rattle.surface.specs.declared.types.LightingLookups.{LightingLookups}
-use Rattle.surface.specs.declared.types.Settings.{Settings}
-use Rattle.surface.specs.declared.types.Sums.{Sums}
+use Rattle.lighting.specs.declared.OptionalShadow.{OptionalShadow}
+use Rattle.lighting.specs.declared.OptionalShadow.the-variants.{Unshadowed, Shadowed}
+use Rattle.surface.specs.Steps.{shadowTexel, frameOf}
+use Rattle.surface.specs.declared.Frame.{Frame}
+use Rattle.light_steps.specs.declared.types.LightingLookups.{LightingLookups}
+use Rattle.light_steps.specs.declared.types.Settings.{Settings}
+use Rattle.light_steps.specs.declared.types.Sums.{Sums}
 use Rattle.light_steps.specs.Steps.{present, stepOf}
+
+-- ---- what a shadow applies to
+
+unfoldable pub primaryOf : OptionalShadow → Bool
+primaryOf Unshadowed = false
+primaryOf (Shadowed s) = s .primary
+
+unfoldable pub secondaryOf : OptionalShadow → Bool
+secondaryOf Unshadowed = false
+secondaryOf (Shadowed s) = s .secondary
+
+unfoldable pub alphaOf : OptionalShadow → Bool
+alphaOf Unshadowed = false
+alphaOf (Shadowed s) = s .alpha
 
 -- ---- what shading takes of a lighting
 

@@ -2,7 +2,7 @@
 ghost use mathlib.Core.Path.{_≡_};
 ghost use Rattle.shading.specs.Steps.{shadowedAlpha, finishOf};
 use flags::both;
-use surface::types::Sums;
+use light_steps::types::Sums;
 
 fn shadowed_alpha(shadowed: bool, alpha: f32, shadow: f32) -> f32
     ensures { λ r. ⌜ r ≡ shadowedAlpha shadowed alpha shadow ⌝ }

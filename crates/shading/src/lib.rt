@@ -15,7 +15,7 @@ ghost use Rattle.shading.specs.Steps.{shadeBy, shadeOf};
 use lighting::Lighting;
 use refusals::Outcome;
 use refusals::Refusal;
-use surface::types::Frame;
+use surface::Frame;
 
 // The eight channels, 0 to 255, in the printed order, from the frame and the shadow.
 // Asks: tables of 12,288 words and a lighting in range, which the caller has looked at before it makes the frame.

@@ -3,13 +3,14 @@ ghost use mathlib.Core.Path.{_≡_};
 ghost use mathlib.Core.Bool.{true};
 ghost use Prim.Native.Nat.{_≤_};
 ghost use Rattle.lighting.specs.Lighting.{inRange};
-ghost use Rattle.shading.specs.Steps.{lightingLookups, lightingSettings, lightingFrame, lightingShadow, texelOf, finishedOf};
+ghost use Rattle.shading.specs.Steps.{primaryOf, secondaryOf, alphaOf, lightingLookups, lightingSettings, lightingFrame, lightingShadow, texelOf, finishedOf};
 use crate::channels;
+use light_steps::types::LightingLookups;
+use light_steps::types::Settings;
+use light_steps::types::Sums;
 use lighting::Lighting;
-use surface::types::Frame;
-use surface::types::LightingLookups;
-use surface::types::Settings;
-use surface::types::Sums;
+use lighting::OptionalShadow;
+use surface::Frame;
 
 pub fn lookups_of(l: Lighting) -> LightingLookups
     ensures { λ r. ⌜ r ≡ lightingLookups l ⌝ }
@@ -34,6 +35,34 @@ pub fn lookups_of(l: Lighting) -> LightingLookups
     }
 }
 
+// What the shadow applies to: nothing where there is none.
+fn primary_of(shadow: OptionalShadow) -> bool
+    ensures { λ r. ⌜ r ≡ primaryOf shadow ⌝ }
+{
+    match shadow {
+        OptionalShadow::Unshadowed => false,
+        OptionalShadow::Shadowed(s) => s.primary,
+    }
+}
+
+fn secondary_of(shadow: OptionalShadow) -> bool
+    ensures { λ r. ⌜ r ≡ secondaryOf shadow ⌝ }
+{
+    match shadow {
+        OptionalShadow::Unshadowed => false,
+        OptionalShadow::Shadowed(s) => s.secondary,
+    }
+}
+
+fn alpha_of(shadow: OptionalShadow) -> bool
+    ensures { λ r. ⌜ r ≡ alphaOf shadow ⌝ }
+{
+    match shadow {
+        OptionalShadow::Unshadowed => false,
+        OptionalShadow::Shadowed(s) => s.alpha,
+    }
+}
+
 pub fn settings_of(l: Lighting, shadow: [f32; 4]) -> Settings
     ensures { λ r. ⌜ r ≡ lightingSettings l shadow ⌝ }
 {
@@ -42,8 +71,8 @@ pub fn settings_of(l: Lighting, shadow: [f32; 4]) -> Settings
     let on = light_steps::values::present(fresnel);
     Settings {
         clamp_highlights: l.clamp_highlights,
-        shadow_primary: surface::shadow::primary_of(optional),
-        shadow_secondary: surface::shadow::secondary_of(optional),
+        shadow_primary: primary_of(optional),
+        shadow_secondary: secondary_of(optional),
         shadow,
         fresnel_sets_primary: flags::both(on, l.fresnel_primary),
         fresnel_sets_secondary: flags::both(on, l.fresnel_secondary),
@@ -86,7 +115,7 @@ pub fn finished(l: Lighting, sums: Sums, shadow: [f32; 4]) -> [u32; 8]
 {
     let optional = l.shadow;
     let ambient = l.global_ambient;
-    let alpha = surface::shadow::alpha_of(optional);
+    let alpha = alpha_of(optional);
     channels::finish(
         sums,
         alpha,

@@ -5,12 +5,12 @@ ghost use lib.Dec.{eqb};
 ghost use lib.ListN.{length};
 ghost use Rattle.shading.specs.Steps.{Numbered, sumsBy};
 ghost use Rattle.sources.specs.Steps.{given};
+use light_steps::types::LightingLookups;
+use light_steps::types::Settings;
+use light_steps::types::Sums;
 use lighting::Light;
 use lighting::Slot;
-use surface::types::Frame;
-use surface::types::LightingLookups;
-use surface::types::Settings;
-use surface::types::Sums;
+use surface::Frame;
 
 // Only the last slot lit applies fresnel.
 // Asks: one of the eight slots, since the one after the last number there is would not fit.

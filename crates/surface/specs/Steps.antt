@@ -1,19 +1,21 @@
 -- What the code computes of a fragment's surface, step by step; nobody has to trust it: `shade-law` (ShadeLaws of shading) ties it to Shade. Definitions only.
 use Prim.Native.Nat.{ℕ}
 use mathlib.Core.List.{List, [], _∷_}
-use mathlib.Core.Bool.{Bool, false, cond, _&&_, _||_}
+use mathlib.Core.Bool.{Bool, cond, not, _||_}
 use lib.Dec.{eqb}
-use lib.Ieee.{Float, lt, eq}
-use Rattle.binary32.specs.Binary32.{float0, float1, magnitudeOf, maxOf, minOf}
+use lib.Ieee.{Float, lt, neg}
+use Rattle.binary32.specs.Binary32.{float0, float1, maxOf}
 use Rattle.root.specs.Root.{rootOf}
-use Rattle.vectors.specs.Vectors.{at, _⊕_, _⊖_, _⊗_, _⊘_, two, dotOf, normalizedOf, rotateOf}
-use Rattle.lighting.specs.Lighting.{zeroVector}
-use Rattle.lighting.specs.declared.Light.{Light}
+use Rattle.vectors.specs.Vectors.{at, _⊕_, _⊖_, _⊗_, _⊘_, two, normalizedOf, rotateOf, dotOf, plusOf}
+use Rattle.lighting.specs.Lighting.{zeroVector, isScaled}
 use Rattle.lighting.specs.declared.Bump.{Bump}
 use Rattle.lighting.specs.declared.Bump.the-variants.{Flat, Normal, Tangent}
 use Rattle.lighting.specs.declared.OptionalShadow.{OptionalShadow}
 use Rattle.lighting.specs.declared.OptionalShadow.the-variants.{Unshadowed, Shadowed}
-use Rattle.surface.specs.declared.types.Frame.{Frame}
+use Rattle.lighting.specs.declared.Light.{Light}
+use Rattle.surface.specs.declared.Frame.{Frame}
+use Rattle.surface.specs.declared.Ray.{Ray}
+use Rattle.surface.specs.declared.Directions.{Directions}
 
 -- ---- the surface before it is turned, from the texel of the bump's unit
 
@@ -69,7 +71,7 @@ frameOf bump texel config needed quaternion view =
       «norm_view» = unitIf needed view;
     }
 
--- ---- the shadow, from the texel of its unit, and what it applies to
+-- ---- the shadow, from the texel of its unit
 
 unfoldable pub inverted : Bool → List Float → List Float
 inverted invert t =
@@ -79,31 +81,38 @@ unfoldable pub shadowTexel : OptionalShadow → List Float → List Float
 shadowTexel Unshadowed texel = float1 ∷ float1 ∷ float1 ∷ float1 ∷ []
 shadowTexel (Shadowed s) texel = inverted (s .invert) texel
 
-unfoldable pub primaryOf : OptionalShadow → Bool
-primaryOf Unshadowed = false
-primaryOf (Shadowed s) = s .primary
+-- ---- the ray to a light
 
-unfoldable pub secondaryOf : OptionalShadow → Bool
-secondaryOf Unshadowed = false
-secondaryOf (Shadowed s) = s .secondary
+unfoldable pub lightVector : Light → List Float → List Float
+lightVector light view =
+    cond (light .directional) (light .direction) (normalizedOf (plusOf (light .position) view))
 
-unfoldable pub alphaOf : OptionalShadow → Bool
-alphaOf Unshadowed = false
-alphaOf (Shadowed s) = s .alpha
+unfoldable pub normIf : Bool → List Float → Float
+normIf needed v = cond needed (rootOf (dotOf v v)) float0
 
--- ---- how much the surface faces a light
+-- a directional light without a distance reads no norm
+unfoldable pub rayTo : Light → List Float → Ray
+rayTo light view =
+    record {
+      vector = lightVector light view;
+      norm = normIf (not (light .directional) || isScaled (light .distance)) (plusOf (light .position) view);
+    }
 
--- NaN is 0 for a one-sided light
-unfoldable pub facingOf : Bool → Float → Float
-facingOf twoSided x = cond twoSided (magnitudeOf x) (maxOf x float0)
+-- where a distance is read, that norm is the norm of −view − position (RayLaws)
+unfoldable pub offsetOf : List Float → List Float → List Float
+offsetOf view position =
+    neg (at view 0) ⊖ at position 0 ∷ neg (at view 1) ⊖ at position 1 ∷ neg (at view 2) ⊖ at position 2 ∷ []
 
-unfoldable pub highlightsOf : Bool → Float → Float
-highlightsOf clamp facing = cond (clamp && eq facing float0) float0 float1
+unfoldable pub offsetNorm : List Float → List Float → Float
+offsetNorm view position = rootOf (dotOf (offsetOf view position) (offsetOf view position))
 
--- from the dot of the half vector with itself
-unfoldable pub factorBy : Float → Float → Float
-factorBy facing squared = cond (eq squared float0) float0 (minOf (facing ⊘ squared) float1)
+-- ---- the directions that it gives
 
--- a light with neither geometric flag reads no factor
-unfoldable pub factorOf : Light → List Float → Float → Float
-factorOf light half facing = cond (light .geometric0 || light .geometric1) (factorBy facing (dotOf half half)) float1
+unfoldable pub halfOf : Bool → List Float → List Float → List Float
+halfOf needed normView lightVector = cond needed (plusOf normView lightVector) zeroVector
+
+abbrev pub directionsBy : List Float → Frame → Bool → Directions
+directionsBy lightVector frame needed = record { «light_vector» = lightVector; half = halfOf needed (frame .«norm_view») lightVector }
+
+unfoldable pub directionsOf : Light → Frame → Bool → Directions
+directionsOf light frame needed = directionsBy (lightVector light (frame .view)) frame needed

@@ -1,14 +1,33 @@
-// What every light sees of a fragment: the normal and the tangent, turned by the quaternion, and the view. Before it `shadow` and `bump` have what a texel gives, after it
-// `facing` how far a surface faces a light; `types` is what shading passes from one step to the next.
+// What every light sees of a fragment: the normal and the tangent, turned by the quaternion, and the view. Before it `shadow` and `bump` have what a texel gives, after it `light` has
+// the ray to a light.
 mod bump;
-pub mod facing;
+pub mod light;
 pub mod shadow;
-pub mod types;
 
 ghost use mathlib.Core.Path.{_≡_};
 ghost use Rattle.surface.specs.Steps.{quaternionNorm, unitQuaternion, tangentOf, unitIf, frameOf};
-use crate::types::Frame;
 use lighting::Bump;
+
+// What every light sees of the fragment: the surface's normal and tangent, turned by the quaternion,
+// and the view with its unit vector.
+pub struct Frame {
+    pub normal: [f32; 3],
+    pub tangent: [f32; 3],
+    pub view: [f32; 3],
+    pub norm_view: [f32; 3],
+}
+
+// The ray from the fragment to a light: its unit vector, or a directional light's direction, and its norm where something reads that. The two share one root.
+pub struct Ray {
+    pub vector: [f32; 3],
+    pub norm: f32,
+}
+
+// The vector toward a light, and the half vector between it and the view.
+pub struct Directions {
+    pub light_vector: [f32; 3],
+    pub half: [f32; 3],
+}
 
 fn quaternion_norm(q: [f32; 4]) -> f32
     ensures { λ r. ⌜ r ≡ quaternionNorm q ⌝ }

@@ -1,11 +1,10 @@
 -- A call on lent words is the call on the cache that they mean: a read anew keeps words that mean what document 01's keeps, and the block of a
 -- cache is the one that packing the cache's lighting gives. Assumes nothing.
 use Prim.Native.Nat.{ℕ, zero, suc, _-_, _≤_}
-use native.Mathlib.Omega.{arith}
 use mathlib.Core.Path.{_≡_, refl, ap, _∙_}
 use mathlib.Core.List.{List}
 use mathlib.Core.Bool.{Bool, true, false, cond, _||_}
-use lib.ListN.{length, length-append, length-take, length-drop}
+use lib.ListN.{length, length-append, length-drop}
 use lib.Seq.{take-at, drop-at}
 use lib.Dec.{eqb}
 use borrow.Author.Tests.{ne-eqb}
@@ -14,6 +13,7 @@ use Rattle.tables.specs.RefusalLaws.{else-left}
 use Rattle.lighting.specs.Lighting.{blankLighting, bumpUnit, shadowUnit, inRange, on}
 use Rattle.lighting.specs.Forms.{every}
 use Rattle.decoding.specs.Read.{read, registersRead, registersReadCount}
+use Rattle.decoding.specs.KeptLaws.{kept-whole}
 use Rattle.block.specs.Block.{words, allZero, zeros, wellFormed, blockReading, accepted, packedReading}
 use Rattle.block.specs.Claims.{WordsHeld}
 use Rattle.block.specs.ReadLaws.{read-packs, read-accepted}
@@ -71,23 +71,19 @@ module _ (b : List ℕ) (back : PacksBack b) where
 
 -- what a read anew keeps
 module _ (f : List ℕ) (long : 474 ≤ length f) where
-  kept-long : length (registersRead f) ≡ registersReadCount
-  unfolding registersRead
-  kept-long = simp (length-append, length-take, length-drop) (omega arith)
-
   anew-kept : cacheKept (anewWords f) ≡ registersRead f
   unfolding anewWords
-  anew-kept = take-at (registersRead f) (packedReading (read f)) registersReadCount kept-long
+  anew-kept = take-at (registersRead f) (packedReading (read f)) registersReadCount (kept-whole f long)
 
   anew-block : cacheBlock (anewWords f) ≡ packedReading (read f)
   unfolding anewWords
-  anew-block = drop-at (registersRead f) (packedReading (read f)) registersReadCount kept-long
+  anew-block = drop-at (registersRead f) (packedReading (read f)) registersReadCount (kept-whole f long)
 
   anew-long : length (anewWords f) ≡ cacheCount
   unfolding anewWords
   anew-long =
       ap (λ (n : ℕ). suc n) (length-append (registersRead f) (packedReading (read f)))
-      ∙ rw (kept-long, packed-length (read f)) refl
+      ∙ rw (kept-whole f long, packed-length (read f)) refl
 
   anew-flag : cacheFlag (anewWords f) ≡ 1
   unfolding anewWords

@@ -5,13 +5,14 @@ use native.Mathlib.Omega.{arith}
 use mathlib.Core.Path.{_≡_, refl, sym, _∙_, subst}
 use mathlib.Core.List.{List, [], _∷_, _++_}
 use mathlib.Core.Bool.{Bool, true, false, false≢true}
-use lib.ListN.{length, getD, set, take, drop, length-append, length-drop, length-set, List·getD-append}
+use lib.ListN.{length, getD, set, take, drop, length-drop, length-set, List·getD-append}
 use lib.Seq.{length-take-le, getD-append-add, getD-at, getD-take, getD-drop, getD-set-same, getD-set-other, ext-getD}
 use lib.Dec.{ltb, eqb}
 use borrow.Author.Tests.{eqb-true, eqb-false, ltb-true, ltb-false, eq-eqb, ne-eqb}
 use Rattle.decoding.specs.Read.{registersRead}
 use Rattle.decoding.specs.Steps.{differences}
 use Rattle.sources.specs.Sources.{sameWords}
+use Rattle.decoding.specs.KeptLaws.{kept-whole}
 use Rattle.decoding.specs.ComparingLaws.{same-equal, same-self, differences-none, none-differences}
 
 -- the words k are those of the file f, place by place
@@ -26,9 +27,6 @@ pub record Agrees (f k : List ℕ) : Type 0 where
 module _ (e d s : ℕ) (l t : List ℕ) (ll : length l ≡ 133) (tl : length t ≡ 3) where
   abbrev whole : List ℕ
   whole = e ∷ (l ++ (d ∷ (t ++ (s ∷ []))))
-
-  whole-length : length whole ≡ 139
-  whole-length = omega (arith, length-append l (d ∷ (t ++ (s ∷ []))), length-append t (s ∷ []))
 
   past-lights : (x : ℕ) → getD whole (134 + x) 0 ≡ getD (d ∷ (t ++ (s ∷ []))) x 0
   past-lights x =
@@ -54,11 +52,6 @@ module _ (f : List ℕ) (h : 474 ≤ length f) where
 
   tables-length : length (take 3 (drop 0x1D0 f)) ≡ 3
   tables-length = length-take-le 3 (drop 0x1D0 f) (omega (arith, length-drop 0x1D0 f))
-
-  kept-length : length (registersRead f) ≡ 139
-  unfolding registersRead
-  kept-length =
-      whole-length (getD f 0x08F 0) (getD f 0x1C6 0) (getD f 0x1D9 0) (take 133 (drop 0x140 f)) (take 3 (drop 0x1D0 f)) lights-length tables-length
 
   kept-agrees : Agrees f (registersRead f)
   unfolding registersRead
@@ -98,7 +91,7 @@ module _ (f : List ℕ) (h : 474 ≤ length f) where
 
   pub agrees-kept : (k : List ℕ) → length k ≡ 139 → Agrees f k → k ≡ registersRead f
   agrees-kept k n a =
-      ext-getD 0 k (registersRead f) (n ∙ sym kept-length) (λ i p. word-same k (registersRead f) a kept-agrees i (omega arith))
+      ext-getD 0 k (registersRead f) (n ∙ sym (kept-whole f h)) (λ i p. word-same k (registersRead f) a kept-agrees i (omega arith))
 
   -- the differences of the five parts
   abbrev found : List ℕ → ℕ

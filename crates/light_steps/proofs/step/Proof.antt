@@ -2,8 +2,8 @@
 -- Assumes nothing.
 use mathlib.Core.Path.{sym, _∙_}
 use Rattle.sources.specs.Steps.{given}
-use Rattle.light_tables.specs.Steps.{directionsOf}
 use Rattle.light_steps.specs.Steps.{stepOf}
+use Rattle.surface.specs.Steps.{directionsOf}
 use Rattle.light_steps.specs.ReadingsLaws.{read-none}
 use Rattle.light_steps.proofs.Rays.{directions-is, distance-is}
 use borrow.Author.Needs.{needs}

@@ -5,8 +5,8 @@ use mathlib.Core.List.{List}
 use mathlib.Core.Bool.{Bool, false, _&&_}
 use lib.Ieee.{Float}
 use Rattle.flags.specs.FlagsLaws.{neither}
-use Rattle.surface.specs.declared.types.Settings.{Settings}
-use Rattle.surface.specs.declared.types.Sums.{Sums}
+use Rattle.light_steps.specs.declared.types.Settings.{Settings}
+use Rattle.light_steps.specs.declared.types.Sums.{Sums}
 use Rattle.light_steps.specs.Steps.{summedOf, withTerms}
 use borrow.Author.Needs.{needs}
 use Rattle.light_steps.proofs.contribution.with_terms.Statement.{statement}

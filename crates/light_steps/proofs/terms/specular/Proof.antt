@@ -7,9 +7,8 @@ use lib.Ieee.{Float}
 use Rattle.flags.specs.FlagsLaws.{neither}
 use Rattle.vectors.specs.Vectors.{timesOf, dotOf}
 use Rattle.lighting.specs.declared.Light.{Light}
-use Rattle.surface.specs.declared.types.Values.{Values}
-use Rattle.surface.specs.Steps.{highlightsOf, factorBy, factorOf}
-use Rattle.light_steps.specs.Steps.{timesIf, specular0Of, reflectedOf, specular1Of, specularBy, specularOf}
+use Rattle.light_steps.specs.declared.types.Values.{Values}
+use Rattle.light_steps.specs.Steps.{highlightsOf, factorBy, factorOf, timesIf, specular0Of, reflectedOf, specular1Of, specularBy, specularOf}
 use borrow.Author.Needs.{needs}
 use Rattle.light_steps.proofs.terms.specular.Statement.{statement}
 use Rattle.light_steps.proofs.terms.specular.Tie as tie
