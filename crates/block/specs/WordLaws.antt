@@ -128,6 +128,15 @@ scale-is n = alike _ _ from (exponents n)
 pub scale-back : (n : ℕ) → scaleFormed n ≡ true → wordOf (floatOf n) ≡ n
 scale-back n h = let s : n ≤ 0x4100_0000 = scale-small n h in number-back n (omega arith) (omega arith)
 
+-- a word of kind 1 with one of the four units, below a limit
+of-unit : (n limit : ℕ) → (eqb (n % 16) 1 && ltb (n / 16 % 16) 4 && ltb n limit) ≡ true → (n % 16 ≡ 1) × (n / 16 % 16 < 4) × (n < limit)
+of-unit n limit p =
+    let rest = ltb (n / 16 % 16) 4 ∷ ltb n limit ∷ [] in (
+      eqb-true (n % 16) 1 (chain-first (eqb (n % 16) 1) rest p),
+      ltb-true (n / 16 % 16) 4 (chain-part (eqb (n % 16) 1) rest p 0),
+      ltb-true n limit (chain-part (eqb (n % 16) 1) rest p 1),
+    )
+
 -- the bump word
 
 bump-zero : bumpWord (blockBump 0) ≡ 0
@@ -138,16 +147,9 @@ bump-cases : (n : ℕ) → bumpFormed n ≡ true
     → (n ≡ 0) ⊎ (((n % 16 ≡ 1) × (n / 16 % 16 < 4) × (n < 512)) ⊎ ((n % 16 ≡ 2) × (n < 64)))
 unfolding bumpFormed
 bump-cases n h =
-    ⊎-elim (λ q. ⊎-elim (λ p. inl (eqb-true n 0 p)) (λ p. inr (inl (normal p))) (or-cases (eqb n 0) (eqb (n % 16) 1 && ltb (n / 16 % 16) 4 && ltb n 512) q))
+    ⊎-elim (λ q. ⊎-elim (λ p. inl (eqb-true n 0 p)) (λ p. inr (inl (of-unit n 512 p))) (or-cases (eqb n 0) (eqb (n % 16) 1 && ltb (n / 16 % 16) 4 && ltb n 512) q))
     (λ p. inr (inr (eqb-true (n % 16) 2 (both-first (eqb (n % 16) 2) (ltb n 64) p), ltb-true n 64 (both-second (eqb (n % 16) 2) (ltb n 64) p))))
     (or-cases (eqb n 0 || (eqb (n % 16) 1 && ltb (n / 16 % 16) 4 && ltb n 512)) (eqb (n % 16) 2 && ltb n 64) h)
-  where
-    normal : (eqb (n % 16) 1 && ltb (n / 16 % 16) 4 && ltb n 512) ≡ true → (n % 16 ≡ 1) × (n / 16 % 16 < 4) × (n < 512)
-    normal p = (
-      eqb-true (n % 16) 1 (chain-first (eqb (n % 16) 1) (ltb (n / 16 % 16) 4 ∷ ltb n 512 ∷ []) p),
-      ltb-true (n / 16 % 16) 4 (chain-part (eqb (n % 16) 1) (ltb (n / 16 % 16) 4 ∷ ltb n 512 ∷ []) p 0),
-      ltb-true n 512 (chain-part (eqb (n % 16) 1) (ltb (n / 16 % 16) 4 ∷ ltb n 512 ∷ []) p 1),
-    )
 
 pub bump-small : (n : ℕ) → bumpFormed n ≡ true → n < 512
 bump-small n h = ⊎-elim (λ e. omega arith) (λ q. ⊎-elim (λ p. p .2) (λ p. omega (arith, p .1)) q) (bump-cases n h)
@@ -189,14 +191,7 @@ shadow-zero = refl
 
 shadow-cases : (n : ℕ) → shadowFormed n ≡ true → (n ≡ 0) ⊎ ((n % 16 ≡ 1) × (n / 16 % 16 < 4) × (n < 4096))
 unfolding shadowFormed
-shadow-cases n h = ⊎-elim (λ p. inl (eqb-true n 0 p)) (λ p. inr (some p)) (or-cases (eqb n 0) (eqb (n % 16) 1 && ltb (n / 16 % 16) 4 && ltb n 4096) h)
-  where
-    some : (eqb (n % 16) 1 && ltb (n / 16 % 16) 4 && ltb n 4096) ≡ true → (n % 16 ≡ 1) × (n / 16 % 16 < 4) × (n < 4096)
-    some p = (
-      eqb-true (n % 16) 1 (chain-first (eqb (n % 16) 1) (ltb (n / 16 % 16) 4 ∷ ltb n 4096 ∷ []) p),
-      ltb-true (n / 16 % 16) 4 (chain-part (eqb (n % 16) 1) (ltb (n / 16 % 16) 4 ∷ ltb n 4096 ∷ []) p 0),
-      ltb-true n 4096 (chain-part (eqb (n % 16) 1) (ltb (n / 16 % 16) 4 ∷ ltb n 4096 ∷ []) p 1),
-    )
+shadow-cases n h = ⊎-elim (λ p. inl (eqb-true n 0 p)) (λ p. inr (of-unit n 4096 p)) (or-cases (eqb n 0) (eqb (n % 16) 1 && ltb (n / 16 % 16) 4 && ltb n 4096) h)
 
 pub shadow-small : (n : ℕ) → shadowFormed n ≡ true → n < 4096
 shadow-small n h = ⊎-elim (λ e. omega arith) (λ p. p .2) (shadow-cases n h)

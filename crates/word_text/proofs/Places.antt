@@ -4,7 +4,7 @@ use native.Mathlib.Numerals.{add-one}
 use native.Mathlib.Nat.{pow-suc, pow-le-pow-right}
 use native.Mathlib.Omega.{arith}
 use mathlib.Core.Path.{_≡_, refl, sym, _∙_}
-use mathlib.Core.List.{List, _∷_}
+use mathlib.Core.List.{List, [], _∷_}
 use mathlib.Core.Bool.{Bool, true, false, cond}
 use lib.ListN.{length, drop, getD, set, length-set, drop-of-length-le}
 use lib.Seq.{drop-cons}
@@ -74,6 +74,12 @@ pub load-word : (t : List ℕ) (at n : ℕ) (out : List ℕ) (w next : ℕ) → 
 unfolding loaded
 load-word t at n out w next h e =
     let more : length out - n ≡ suc (length out - (n + 1)) = omega arith in rw (more, e, length-set out n w) refl
+
+-- an empty text
+pub load-nothing : (k : ℕ) (out : List ℕ) → loadedAs 0 out ≡ loaded k [] 0 0 out
+unfolding loaded nextOf
+load-nothing zero out = refl
+load-nothing (suc k) out = refl
 
 -- the text's end, and something else than a word
 pub load-end : (t : List ℕ) (at n : ℕ) (out : List ℕ) → n < length out → nextOf false (drop at t) at ≡ End → loaded (length out - n) t at n out ≡ loadedAs n out

@@ -1,8 +1,9 @@
 -- For tests alone: the words of a text, put into a list one after the other. Definitions only.
 use Prim.Native.Nat.{ℕ, zero, suc, _+_}
+use mathlib.Core.Path.{_≡_}
 use mathlib.Core.List.{List}
 use mathlib.Core.Bool.{false}
-use lib.ListN.{drop, set}
+use lib.ListN.{length, drop, set}
 use Rattle.word_text.specs.declared.Next.{Next}
 use Rattle.word_text.specs.declared.Next.the-variants.{Word, End, Malformed}
 use Rattle.word_text.specs.Text.{nextOf}
@@ -26,3 +27,8 @@ unfoldable pub loaded : ℕ → List ℕ → ℕ → ℕ → List ℕ → Loaded
 loaded zero t at n out = loadedAs n out
 loaded (suc k) t at n out =
     onward (nextOf false (drop at t) at) (λ w next. loaded k t next (n + 1) (set out n w)) (loadedAs n out)
+
+-- what was put is the words of some text: which one a file has is not known to a proof
+pub record OfSomeText (n : ℕ) (before after : List ℕ) : Type 0 where
+  pub text : List ℕ
+  pub is : loadedAs n after ≡ loaded (length before) text 0 0 before

@@ -5,7 +5,7 @@ ghost use Prim.Native.Nat.{_≤_};
 ghost use lib.ListN.{length, take, drop};
 ghost use mathlib.Core.Bool.{false};
 ghost use Rattle.word_text.specs.Text.{digitOf, digitsOf, isGap, inRemark, nextOf};
-ghost use Rattle.word_text.specs.Load.{loaded, loadedAs};
+ghost use Rattle.word_text.specs.Load.{loaded, loadedAs, OfSomeText};
 
 // What stands next in a text.
 enum Next {
@@ -130,8 +130,10 @@ fn load(text: &[u8], out: &mut [u32]) -> usize
     n
 }
 
-// The words of a file, so loaded; none where it can't be opened. One that is too long to be read whole is said to be.
+// The words of a file, so loaded; none, as of an empty text, where it can't be opened. One that is too long to be read whole is said to be. That they are the file's words is
+// told by what the programs print.
 pub fn load_file(name: &[u8], out: &mut [u32]) -> usize
+    ensures { λ r. ⌜ OfSomeText r (now (out .entry)) (now (out .exit)) ⌝ }
     ensures { λ r. ⌜ (r ≤ length (now (out .exit))) × (r ≡ length (take r (now (out .exit)))) ⌝ }
 {
     let fd = os::open_read(name);
