@@ -34,10 +34,9 @@ pub record SameLights (f g : List ℕ) : Type 0 where
 -- the files agree on each of the 139 registers
 pub record SameKept (f g : List ℕ) : Type 0 where
   pub enable : registerOf f regEnable ≡ registerOf g regEnable
-  pub blocks : (k : ℕ) → k < 133 → registerOf f (regLights + k) ≡ registerOf g (regLights + k)
+  pub lights : SameLights f g
   pub disable : registerOf f regDisable ≡ registerOf g regDisable
   pub tables : (k : ℕ) → k < 3 → registerOf f (regTableAbsolute + k) ≡ registerOf g (regTableAbsolute + k)
-  pub slots : registerOf f regLightSlots ≡ registerOf g regLightSlots
 
 -- ---- What packing asks of a lighting, and what every lighting that `read` gives has
 

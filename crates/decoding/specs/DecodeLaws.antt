@@ -8,7 +8,7 @@ use native.Mathlib.Omega.{arith}
 use Rattle.lighting.specs.Lighting.{off}
 use Rattle.lighting.specs.declared.Lighting.{Lighting}
 use Rattle.lighting.specs.declared.OptionalLighting.{OptionalLighting}
-use Rattle.decoding.specs.Claims.{SameLights, SameKept, Limits}
+use Rattle.decoding.specs.Claims.{SameKept, Limits}
 use Rattle.decoding.specs.SameLaws.{count-same, config-same, lights-same}
 use Rattle.decoding.specs.Read.{lookup, table, read, registersRead}
 use Rattle.decoding.specs.Steps.{lookupsOf, litLights, needsHalf, needsView, lightingOf, lightingOn, readSteps}
@@ -17,18 +17,15 @@ use Rattle.decoding.specs.LimitLaws.{lighting-limits}
 use Rattle.decoding.specs.ReadLaws.{read-law}
 
 module _ (f g : List ℕ) (s : SameKept f g) where
-  same : SameLights f g
-  same = record { blocks = s .blocks; slots = s .slots }
-
   lookups-same : lookupsOf f ≡ lookupsOf g
   unfolding lookupsOf table lookup
   lookups-same =
-      simp (config-same f g same, s .blocks 132 (omega arith), s .tables 0 (omega arith), s .tables 1 (omega arith), s .tables 2 (omega arith))
+      simp (config-same f g (s .lights), s .lights .blocks 132 (omega arith), s .tables 0 (omega arith), s .tables 1 (omega arith), s .tables 2 (omega arith))
 
   lighting-same : lightingOf f ≡ lightingOf g
   unfolding lightingOf needsHalf needsView litLights
   lighting-same =
-      simp (lookups-same, lights-same f g same, count-same f g same, config-same f g same, s .blocks 128 (omega arith), s .blocks 131 (omega arith))
+      simp (lookups-same, lights-same f g (s .lights), count-same f g (s .lights), config-same f g (s .lights), s .lights .blocks 128 (omega arith), s .lights .blocks 131 (omega arith))
 
   steps-same : readSteps f ≡ readSteps g
   unfolding readSteps lightingOn

@@ -68,8 +68,7 @@ kept-same f g e =
     let tables = fronts (take 3 (drop regTableAbsolute f)) (take 3 (drop regTableAbsolute g)) _ _ tables-long after in
     record {
       enable = enable;
-      blocks = λ k h. part-same f g 133 regLights k (lights .0) h;
+      lights = record { blocks = λ k h. part-same f g 133 regLights k (lights .0) h; slots = ap (λ (l : List ℕ). getD l 0 0) (tables .1) };
       disable = disable;
       tables = λ k h. part-same f g 3 regTableAbsolute k (tables .0) h;
-      slots = ap (λ (l : List ℕ). getD l 0 0) (tables .1);
     }

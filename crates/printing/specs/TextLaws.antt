@@ -10,7 +10,7 @@ use lib.Dec.{eqb}
 use borrow.Author.Tests.{eqb-true, eqb-false}
 use Rattle.printing.specs.Steps.{Out, out, puts}
 use Rattle.printing.specs.WritingLaws.{puts-more}
-use Rattle.printing.specs.PieceLaws.{drop-one, drop-none}
+use Rattle.sources.specs.PieceLaws.{drop-one, drop-none}
 use Rattle.printing.specs.Printing.{decimal, gap, line, refusedLine}
 use Rattle.printing.specs.DecimalLaws.{decimal-most}
 

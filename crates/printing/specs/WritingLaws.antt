@@ -9,7 +9,7 @@ use mathlib.Core.List.{List, [], _∷_, _++_}
 use lib.ListN.{length, getD, set, drop, take}
 use lib.Seq.{sets, sets-eq, take-at}
 use Rattle.printing.specs.Steps.{Out, out, puts}
-use Rattle.printing.specs.PieceLaws.{drop-one}
+use Rattle.sources.specs.PieceLaws.{drop-one}
 
 pub puts-append : (o : Out) (xs ys : List ℕ) → puts o (xs ++ ys) ≡ puts (puts o xs) ys
 unfolding puts

@@ -1,3 +1,4 @@
+pub mod PieceLaws
 pub mod Sources
 pub mod SourcesLaws
 pub mod Steps

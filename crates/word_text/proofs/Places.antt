@@ -1,22 +1,17 @@
 -- One step of each definition at a place of the text: what it gives there is what it gives after the byte that stands there. The loops go by these steps. Assumes nothing.
 use Prim.Native.Nat.{ℕ, zero, suc, _+_, _*_, _-_, _^_, _<_, _≤_}
-use native.Mathlib.Numerals.{add-one}
 use native.Mathlib.Nat.{pow-suc, pow-le-pow-right}
 use native.Mathlib.Omega.{arith}
 use mathlib.Core.Path.{_≡_, refl, sym, _∙_}
-use mathlib.Core.List.{List, [], _∷_}
+use mathlib.Core.List.{List, []}
 use mathlib.Core.Bool.{Bool, true, false, cond}
 use lib.ListN.{length, drop, getD, set, length-set, drop-of-length-le}
-use lib.Seq.{drop-cons}
 use lib.Dec.{eqb}
 use borrow.Author.Tests.{eq-eqb, ne-eqb}
+use Rattle.sources.specs.PieceLaws.{drop-one}
 use Rattle.word_text.specs.declared.Next.the-variants.{Word, End, Malformed}
 use Rattle.word_text.specs.Text.{digitOf, digitsOf, isGap, inRemark, nextOf}
 use Rattle.word_text.specs.Load.{loaded, loadedAs}
-
--- from a place on, the byte there and what follows it
-drop-next : (t : List ℕ) (i : ℕ) → i < length t → drop i t ≡ getD t i 0 ∷ drop (i + 1) t
-drop-next t i h = rw (add-one i) (drop-cons t i 0 h)
 
 -- no digit left to read
 pub digits-done : (k n i : ℕ) (t : List ℕ) → k ≡ 0 → digitsOf k n t i ≡ Word n i
@@ -31,7 +26,7 @@ digits-past (suc k) n i t p h = rw (drop-of-length-le t h) refl
 
 digits-at : (k n i : ℕ) (t : List ℕ) → i < length t → digitsOf (suc k) n (drop i t) i ≡ cond (eqb (digitOf (getD t i 0)) 16) Malformed (digitsOf k (n * 16 + digitOf (getD t i 0)) (drop (i + 1) t) (i + 1))
 unfolding digitsOf
-digits-at k n i t h = rw (drop-next t i h) refl
+digits-at k n i t h = rw (drop-one t i h) refl
 
 -- a byte that is no digit
 pub digits-none : (k n i : ℕ) (t : List ℕ) (d : ℕ) → 0 < k → i < length t → d ≡ digitOf (getD t i 0) → d ≡ 16 → digitsOf k n (drop i t) i ≡ Malformed
@@ -63,11 +58,11 @@ next-end remark i t h = rw (drop-of-length-le t h) refl
 -- a byte between words, and a word's first
 pub next-gap : (remark : Bool) (i : ℕ) (t : List ℕ) → i < length t → isGap remark (getD t i 0) ≡ true → nextOf remark (drop i t) i ≡ nextOf (inRemark remark (getD t i 0)) (drop (i + 1) t) (i + 1)
 unfolding nextOf
-next-gap remark i t h e = rw (drop-next t i h, e) refl
+next-gap remark i t h e = rw (drop-one t i h, e) refl
 
 pub next-word : (remark : Bool) (i : ℕ) (t : List ℕ) → i < length t → isGap remark (getD t i 0) ≡ false → nextOf remark (drop i t) i ≡ digitsOf 8 0 (drop i t) i
 unfolding nextOf
-next-word remark i t h e = rw (drop-next t i h, e) refl
+next-word remark i t h e = rw (drop-one t i h, e) refl
 
 -- a word goes to its place, and one less is left to put
 pub load-word : (t : List ℕ) (at n : ℕ) (out : List ℕ) (w next : ℕ) → n < length out → nextOf false (drop at t) at ≡ Word w next → loaded (length out - n) t at n out ≡ loaded (length (set out n w) - (n + 1)) t next (n + 1) (set out n w)

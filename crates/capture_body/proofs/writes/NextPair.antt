@@ -10,7 +10,7 @@ use Rattle.lists.specs.Calls.{step, run}
 use Rattle.lists.specs.Calls.Call.{Write}
 use Rattle.lists.specs.Calls.Lent.{own}
 use Rattle.lists.specs.Ours.{ours}
-use Rattle.printing.specs.PieceLaws.{drop-two}
+use Rattle.sources.specs.PieceLaws.{drop-two}
 use Rattle.capture_calls.specs.Capture.{pairCalls}
 
 pub pairs-turn : (s s′ all : State Cache) (l : List ℕ) (i : ℕ) → 2 * i + 2 ≤ length l → s′ ≡ step ours s (Write own own (getD l (2 * i) 0) (getD l (2 * i + 1) 0)) → run ours s (pairCalls (drop (2 * i) l)) ≡ all → run ours s′ (pairCalls (drop (2 * (i + 1)) l)) ≡ all

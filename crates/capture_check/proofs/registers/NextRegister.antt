@@ -7,7 +7,7 @@ use mathlib.Core.List.{List, [], _∷_}
 use mathlib.Core.Bool.{Bool, true, false}
 use borrow.Author.Tests.{lt-ltb, le-ltb}
 use lib.ListN.{length, getD, take, drop, length-drop}
-use Rattle.printing.specs.PieceLaws.{drop-two}
+use Rattle.sources.specs.PieceLaws.{drop-two}
 use Rattle.capture_check.specs.Contents.{triple, triples, gapless, wordsIn, registersIn, bodyRight, registersRight}
 use Rattle.capture_check.specs.ContentsLaws.{triples-more, body-words}
 

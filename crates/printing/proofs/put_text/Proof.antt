@@ -7,7 +7,7 @@ use lib.ListN.{length, drop, length-set}
 use Rattle.printing.specs.Steps.{puts}
 use Rattle.printing.specs.Steps as Writing
 use Rattle.printing.specs.WritingLaws.{puts-next}
-use Rattle.printing.specs.PieceLaws.{drop-none}
+use Rattle.sources.specs.PieceLaws.{drop-none}
 use borrow.Author.Needs.{needs}
 use Rattle.printing.proofs.put_text.Statement.{statement}
 use Rattle.printing.proofs.put_text.Tie as tie

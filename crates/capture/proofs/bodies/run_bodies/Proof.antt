@@ -9,7 +9,7 @@ use Rattle.lists.specs.Calls.{run}
 use Rattle.lists.specs.Ours.{ours}
 use Rattle.printing.specs.Steps.{puts}
 use Rattle.printing.specs.Steps as Writing
-use Rattle.printing.specs.PieceLaws.{part-is, part-length}
+use Rattle.sources.specs.PieceLaws.{part-is, part-length}
 use Rattle.capture_check.specs.Contents.{triples, contentsEnd, gapless}
 use Rattle.capture_check.specs.ContentsLaws.{triples-all, triples-none, body-end, body-rest}
 use Rattle.capture_body.specs.Steps.{lentState}

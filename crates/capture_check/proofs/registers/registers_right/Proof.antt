@@ -6,7 +6,7 @@ use mathlib.Core.Path.{_≡_, sym, _∙_}
 use mathlib.Core.Bool.{true}
 use borrow.Author.Tests.{not-true, not-false}
 use lib.ListN.{length}
-use Rattle.printing.specs.PieceLaws.{part-is}
+use Rattle.sources.specs.PieceLaws.{part-is}
 use Rattle.capture_check.specs.Contents.{triples, contentsEnd, gapless, registersRight}
 use Rattle.capture_check.specs.ContentsLaws.{triples-all, triples-none, body-end, body-rest}
 use Rattle.capture_check.proofs.registers.NextRegister.{right-go, right-stop}

@@ -8,7 +8,7 @@ use Rattle.sources.specs.Sources.{wordsOf}
 use Rattle.sources.specs.SourcesLaws.{length-words}
 use Rattle.printing.specs.Steps.{out, puts}
 use Rattle.printing.specs.WritingLaws.{puts-next}
-use Rattle.printing.specs.PieceLaws.{drop-none}
+use Rattle.sources.specs.PieceLaws.{drop-none}
 use Rattle.capture_check.proofs.words.Given.{given-none}
 use borrow.Author.Needs.{needs}
 use Rattle.capture_check.proofs.words.to_words.Statement.{statement}

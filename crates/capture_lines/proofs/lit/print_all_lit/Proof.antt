@@ -6,7 +6,7 @@ use mathlib.Core.Path.{_≡_, refl, _∙_}
 use lib.ListN.{length, drop, length-take, length-drop}
 use Rattle.printing.specs.Steps.{puts}
 use Rattle.printing.specs.Steps as Writing
-use Rattle.printing.specs.PieceLaws.{part-is}
+use Rattle.sources.specs.PieceLaws.{part-is}
 use Rattle.capture_lines.specs.Lines.{fragmentLines}
 use Rattle.capture_lines.specs.Steps.{litShades}
 use Rattle.capture_lines.specs.LinesLaws.{lines-all, lines-none, lines-turn}
