@@ -44,11 +44,11 @@ fn summed(
 ) -> [f32; 4]
     ensures { λ r. ⌜ r ≡ summedOf sum terms shadowed shadow applied fresnel ⌝ }
 {
-    let k = shadow_for(shadowed, shadow);
+    let factors = shadow_for(shadowed, shadow);
     if applied {
-        added(sum, terms, k, fresnel)
+        added(sum, terms, factors, fresnel)
     } else {
-        added(sum, terms, k, sum[3])
+        added(sum, terms, factors, sum[3])
     }
 }
 
@@ -56,31 +56,45 @@ fn summed(
 // compiler leaves the products out.
 fn with_terms(
     sums: Sums,
-    p: [f32; 3],
-    q: [f32; 3],
+    diffuse: [f32; 3],
+    specular: [f32; 3],
     shadowed: bool,
     settings: Settings,
     last: bool,
     fresnel: f32,
 ) -> Sums
-    ensures { λ r. ⌜ r ≡ withTerms sums p q shadowed settings last fresnel ⌝ }
+    ensures { λ r. ⌜ r ≡ withTerms sums diffuse specular shadowed settings last fresnel ⌝ }
 {
     let shadow = settings.shadow;
-    let d = sums.diffuse;
-    let s = sums.specular;
+    let diffuse_sum = sums.diffuse;
+    let specular_sum = sums.specular;
     let primary = both(settings.shadow_primary, shadowed);
     let secondary = both(settings.shadow_secondary, shadowed);
-    let f = both(last, settings.fresnel_sets_primary);
-    let g = both(last, settings.fresnel_sets_secondary);
+    let sets_primary = both(last, settings.fresnel_sets_primary);
+    let sets_secondary = both(last, settings.fresnel_sets_secondary);
     if either(primary, secondary) {
         return Sums {
-            diffuse: summed(d, p, primary, shadow, f, fresnel),
-            specular: summed(s, q, secondary, shadow, g, fresnel),
+            diffuse: summed(diffuse_sum, diffuse, primary, shadow, sets_primary, fresnel),
+            specular: summed(
+                specular_sum,
+                specular,
+                secondary,
+                shadow,
+                sets_secondary,
+                fresnel,
+            ),
         };
     }
     Sums {
-        diffuse: summed(d, p, false, shadow, f, fresnel),
-        specular: summed(s, q, false, shadow, g, fresnel),
+        diffuse: summed(diffuse_sum, diffuse, false, shadow, sets_primary, fresnel),
+        specular: summed(
+            specular_sum,
+            specular,
+            false,
+            shadow,
+            sets_secondary,
+            fresnel,
+        ),
     }
 }
 
@@ -90,18 +104,26 @@ pub(crate) fn with_values(
     light: Light,
     normal: [f32; 3],
     directions: Directions,
-    v: Values,
+    values: Values,
     settings: Settings,
     last: bool,
 ) -> Sums
-    ensures { λ r. ⌜ r ≡ withValues sums light normal directions v settings last ⌝ }
+    ensures { λ r. ⌜ r ≡ withValues sums light normal directions values settings last ⌝ }
 {
     let light_vector = directions.light_vector;
     let half = directions.half;
     let facing = facing_of(light.two_sided, vectors::dot(light_vector, normal));
-    let p = terms::diffuse(light, facing, v.distance, v.spot);
-    let q = terms::specular(light, half, v, settings.clamp_highlights, facing);
-    with_terms(sums, p, q, light.shadowed, settings, last, v.fresnel)
+    let diffuse = terms::diffuse(light, facing, values.distance, values.spot);
+    let specular = terms::specular(light, half, values, settings.clamp_highlights, facing);
+    with_terms(
+        sums,
+        diffuse,
+        specular,
+        light.shadowed,
+        settings,
+        last,
+        values.fresnel,
+    )
 }
 
 // The same for a light that reads no table but its distance table: every other value is 1, and the compiler leaves the products out. It would leave them in
@@ -117,11 +139,19 @@ pub(crate) fn with_unread(
 ) -> Sums
     ensures { λ r. ⌜ r ≡ withValues sums light normal directions (unread distance) settings last ⌝ }
 {
-    let v = values::unread(distance);
+    let values = values::unread(distance);
     let light_vector = directions.light_vector;
     let half = directions.half;
     let facing = facing_of(light.two_sided, vectors::dot(light_vector, normal));
-    let p = terms::diffuse(light, facing, v.distance, v.spot);
-    let q = terms::specular(light, half, v, settings.clamp_highlights, facing);
-    with_terms(sums, p, q, light.shadowed, settings, last, v.fresnel)
+    let diffuse = terms::diffuse(light, facing, values.distance, values.spot);
+    let specular = terms::specular(light, half, values, settings.clamp_highlights, facing);
+    with_terms(
+        sums,
+        diffuse,
+        specular,
+        light.shadowed,
+        settings,
+        last,
+        values.fresnel,
+    )
 }

@@ -52,21 +52,21 @@ fn readings_by(lookups: LightingLookups, light: Light, inputs: [f32; 8], last: b
     ensures { λ r. ⌜ r ≡ readingsBy lookups light inputs last ⌝ }
 {
     let spotlight = lookups.spotlight;
-    let a = lookups.distribution0;
-    let b = lookups.distribution1;
-    let c = lookups.fresnel;
-    let d = lookups.reflect_red;
-    let e = lookups.reflect_green;
-    let f = lookups.reflect_blue;
+    let distribution0 = lookups.distribution0;
+    let distribution1 = lookups.distribution1;
+    let fresnel = lookups.fresnel;
+    let red = lookups.reflect_red;
+    let green = lookups.reflect_green;
+    let blue = lookups.reflect_blue;
     let twosided = light.two_sided;
     Readings {
         spot: spot_reading(light, spotlight, inputs),
-        distribution0: reading_if(DISTRIBUTION0, a, twosided, inputs),
-        red: reading_if(REFLECT_RED, d, twosided, inputs),
-        green: reading_if(REFLECT_GREEN, e, twosided, inputs),
-        blue: reading_if(REFLECT_BLUE, f, twosided, inputs),
-        distribution1: reading_if(DISTRIBUTION1, b, twosided, inputs),
-        fresnel: fresnel_reading(last, c, twosided, inputs),
+        distribution0: reading_if(DISTRIBUTION0, distribution0, twosided, inputs),
+        red: reading_if(REFLECT_RED, red, twosided, inputs),
+        green: reading_if(REFLECT_GREEN, green, twosided, inputs),
+        blue: reading_if(REFLECT_BLUE, blue, twosided, inputs),
+        distribution1: reading_if(DISTRIBUTION1, distribution1, twosided, inputs),
+        fresnel: fresnel_reading(last, fresnel, twosided, inputs),
     }
 }
 

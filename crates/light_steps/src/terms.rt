@@ -9,12 +9,12 @@ use lighting::Light;
 pub(crate) fn diffuse(light: Light, facing: f32, distance: f32, spot: f32) -> [f32; 3]
     ensures { λ r. ⌜ r ≡ diffuseOf light facing distance spot ⌝ }
 {
-    let d = light.diffuse;
-    let a = light.ambient;
+    let diffuse = light.diffuse;
+    let ambient = light.ambient;
     [
-        (d[0] * facing + a[0]) * distance * spot,
-        (d[1] * facing + a[1]) * distance * spot,
-        (d[2] * facing + a[2]) * distance * spot,
+        (diffuse[0] * facing + ambient[0]) * distance * spot,
+        (diffuse[1] * facing + ambient[1]) * distance * spot,
+        (diffuse[2] * facing + ambient[2]) * distance * spot,
     ]
 }
 
@@ -28,23 +28,29 @@ fn times_if(geometric: bool, v: [f32; 3], factor: f32) -> [f32; 3]
     }
 }
 
-fn reflected(s: [f32; 3], v: Values) -> [f32; 3]
-    ensures { λ r. ⌜ r ≡ reflectedOf s v ⌝ }
+fn reflected(specular: [f32; 3], values: Values) -> [f32; 3]
+    ensures { λ r. ⌜ r ≡ reflectedOf specular values ⌝ }
 {
     [
-        v.distribution1 * v.red * s[0],
-        v.distribution1 * v.green * s[1],
-        v.distribution1 * v.blue * s[2],
+        values.distribution1 * values.red * specular[0],
+        values.distribution1 * values.green * specular[1],
+        values.distribution1 * values.blue * specular[2],
     ]
 }
 
-fn specular_by(s: [f32; 3], t: [f32; 3], highlights: f32, distance: f32, spot: f32) -> [f32; 3]
-    ensures { λ r. ⌜ r ≡ specularBy s t highlights distance spot ⌝ }
+fn specular_by(
+    first: [f32; 3],
+    second: [f32; 3],
+    highlights: f32,
+    distance: f32,
+    spot: f32,
+) -> [f32; 3]
+    ensures { λ r. ⌜ r ≡ specularBy first second highlights distance spot ⌝ }
 {
     [
-        (s[0] + t[0]) * highlights * distance * spot,
-        (s[1] + t[1]) * highlights * distance * spot,
-        (s[2] + t[2]) * highlights * distance * spot,
+        (first[0] + second[0]) * highlights * distance * spot,
+        (first[1] + second[1]) * highlights * distance * spot,
+        (first[2] + second[2]) * highlights * distance * spot,
     ]
 }
 
@@ -52,22 +58,34 @@ fn specular_by(s: [f32; 3], t: [f32; 3], highlights: f32, distance: f32, spot: f
 pub(crate) fn specular(
     light: Light,
     half: [f32; 3],
-    v: Values,
+    values: Values,
     clamp: bool,
     facing: f32,
 ) -> [f32; 3]
-    ensures { λ r. ⌜ r ≡ specularOf light half v clamp facing ⌝ }
+    ensures { λ r. ⌜ r ≡ specularOf light half values clamp facing ⌝ }
 {
     let specular0 = light.specular0;
     let specular1 = light.specular1;
     let highlights = highlights_of(clamp, facing);
-    let s = vectors::times(specular0, v.distribution0);
-    let t = reflected(specular1, v);
+    let specular0 = vectors::times(specular0, values.distribution0);
+    let specular1 = reflected(specular1, values);
     if flags::either(light.geometric0, light.geometric1) {
         let factor = factor_by(facing, vectors::dot(half, half));
-        let u = times_if(light.geometric0, s, factor);
-        let w = times_if(light.geometric1, t, factor);
-        return specular_by(u, w, highlights, v.distance, v.spot);
+        let specular0 = times_if(light.geometric0, specular0, factor);
+        let specular1 = times_if(light.geometric1, specular1, factor);
+        return specular_by(
+            specular0,
+            specular1,
+            highlights,
+            values.distance,
+            values.spot,
+        );
     }
-    specular_by(s, t, highlights, v.distance, v.spot)
+    specular_by(
+        specular0,
+        specular1,
+        highlights,
+        values.distance,
+        values.spot,
+    )
 }

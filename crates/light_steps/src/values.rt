@@ -22,17 +22,20 @@ pub fn present(lookup: OptionalLookup) -> bool
 pub(crate) fn reads_tables(lookups: LightingLookups, light: Light) -> bool
     ensures { λ r. ⌜ r ≡ readsTables lookups light ⌝ }
 {
-    let a = lookups.distribution0;
-    let b = lookups.distribution1;
-    let c = lookups.fresnel;
-    let d = lookups.reflect_red;
-    let e = lookups.reflect_green;
-    let f = lookups.reflect_blue;
-    let g = either(
-        either(present(a), present(b)),
-        either(present(c), present(d)),
+    let distribution0 = lookups.distribution0;
+    let distribution1 = lookups.distribution1;
+    let fresnel = lookups.fresnel;
+    let red = lookups.reflect_red;
+    let green = lookups.reflect_green;
+    let blue = lookups.reflect_blue;
+    let first = either(
+        either(present(distribution0), present(distribution1)),
+        either(present(fresnel), present(red)),
     );
-    either(either(g, either(present(e), present(f))), light.spotlight)
+    either(
+        either(first, either(present(green), present(blue))),
+        light.spotlight,
+    )
 }
 
 fn scaled_if(lookup: OptionalLookup, x: f32, missing: f32) -> f32
@@ -70,22 +73,22 @@ pub(crate) fn values_from(
     ensures { λ r. ⌜ r ≡ valuesFrom lookups light read last ⌝ }
 {
     let spotlight = lookups.spotlight;
-    let a = lookups.distribution0;
-    let b = lookups.distribution1;
-    let c = lookups.fresnel;
-    let d = lookups.reflect_red;
-    let e = lookups.reflect_green;
-    let f = lookups.reflect_blue;
-    let red = scaled_if(d, read.red, 1.0);
+    let distribution0 = lookups.distribution0;
+    let distribution1 = lookups.distribution1;
+    let fresnel = lookups.fresnel;
+    let reflect_red = lookups.reflect_red;
+    let reflect_green = lookups.reflect_green;
+    let reflect_blue = lookups.reflect_blue;
+    let red = scaled_if(reflect_red, read.red, 1.0);
     Values {
         distance: read.distance,
         spot: spot_scaled(light, spotlight, read.spot),
-        distribution0: scaled_if(a, read.distribution0, 1.0),
+        distribution0: scaled_if(distribution0, read.distribution0, 1.0),
         red,
-        green: scaled_if(e, read.green, red),
-        blue: scaled_if(f, read.blue, red),
-        distribution1: scaled_if(b, read.distribution1, 1.0),
-        fresnel: fresnel_scaled(last, c, read.fresnel),
+        green: scaled_if(reflect_green, read.green, red),
+        blue: scaled_if(reflect_blue, read.blue, red),
+        distribution1: scaled_if(distribution1, read.distribution1, 1.0),
+        fresnel: fresnel_scaled(last, fresnel, read.fresnel),
     }
 }
 

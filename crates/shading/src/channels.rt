@@ -21,18 +21,18 @@ pub(crate) fn finish(
 ) -> [u32; 8]
     ensures { λ r. ⌜ r ≡ finishOf sums alpha primary secondary shadow ambient ⌝ }
 {
-    let d = sums.diffuse;
-    let s = sums.specular;
-    let a = shadowed_alpha(both(alpha, primary), d[3], shadow[3]);
-    let b = shadowed_alpha(both(alpha, secondary), s[3], shadow[3]);
+    let diffuse = sums.diffuse;
+    let specular = sums.specular;
+    let diffuse_alpha = shadowed_alpha(both(alpha, primary), diffuse[3], shadow[3]);
+    let specular_alpha = shadowed_alpha(both(alpha, secondary), specular[3], shadow[3]);
     [
-        binary32::whole_parts::quantized(d[0] + ambient[0]),
-        binary32::whole_parts::quantized(d[1] + ambient[1]),
-        binary32::whole_parts::quantized(d[2] + ambient[2]),
-        binary32::whole_parts::quantized(a),
-        binary32::whole_parts::quantized(s[0]),
-        binary32::whole_parts::quantized(s[1]),
-        binary32::whole_parts::quantized(s[2]),
-        binary32::whole_parts::quantized(b),
+        binary32::whole_parts::quantized(diffuse[0] + ambient[0]),
+        binary32::whole_parts::quantized(diffuse[1] + ambient[1]),
+        binary32::whole_parts::quantized(diffuse[2] + ambient[2]),
+        binary32::whole_parts::quantized(diffuse_alpha),
+        binary32::whole_parts::quantized(specular[0]),
+        binary32::whole_parts::quantized(specular[1]),
+        binary32::whole_parts::quantized(specular[2]),
+        binary32::whole_parts::quantized(specular_alpha),
     ]
 }

@@ -65,7 +65,7 @@ returns-2 c =
     let n = neither (primary .result) (secondary .result) (sym (e .either .ensures) ∙ c .before .before .if1 .left) in
     simp
     (c .summed4 .ensures, c .before .summed3 .ensures, e .before .both4 .ensures, e .before .before .both3 .ensures)
-    (unshadowed (a .sums) (a .p) (a .q) (a .shadowed) (a .settings) (a .last) (a .fresnel) (sym (primary .ensures) ∙ n .0) (sym (secondary .ensures) ∙ n .1))
+    (unshadowed (a .sums) (a .diffuse) (a .specular) (a .shadowed) (a .settings) (a .last) (a .fresnel) (sym (primary .ensures) ∙ n .0) (sym (secondary .ensures) ∙ n .1))
 
 pub with-terms-spec : {M : Type 1} → statement M
 with-terms-spec =

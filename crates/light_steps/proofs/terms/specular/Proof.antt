@@ -61,7 +61,7 @@ returns c =
     let a = e .before .before .before .before .before .before .before .args in
     simp
     (c .specular-by .ensures, c .before .times-if2 .ensures, c .before .before .times-if .ensures, c .before .before .before .factor-by .ensures, f .dot .ensures, e .before .before .reflected .ensures, e .before .before .before .times .ensures, e .before .before .before .before .highlights-of .ensures)
-    (with-factor (a .light) (a .half) (a .v) (a .clamp) (a .facing) (sym (e .before .either .ensures) ∙ e .if1 .taken))
+    (with-factor (a .light) (a .half) (a .values) (a .clamp) (a .facing) (sym (e .before .either .ensures) ∙ e .if1 .taken))
 
 specular-by-requires-2 : tie.Need-specular-by-requires-2
 specular-by-requires-2 c κs = search needs
@@ -72,7 +72,7 @@ returns-2 c =
     let a = e .before .before .before .before .before .before .before .args in
     simp
     (c .specular-by2 .ensures, e .before .before .reflected .ensures, e .before .before .before .times .ensures, e .before .before .before .before .highlights-of .ensures)
-    (without-factor (a .light) (a .half) (a .v) (a .clamp) (a .facing) (sym (e .before .either .ensures) ∙ e .if1 .left))
+    (without-factor (a .light) (a .half) (a .values) (a .clamp) (a .facing) (sym (e .before .either .ensures) ∙ e .if1 .left))
 
 pub specular-spec : {M : Type 1} → statement M
 specular-spec =
