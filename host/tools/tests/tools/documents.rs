@@ -48,7 +48,9 @@ fn the_scene_in_the_readme_is_drawn() {
     let output = picture(&[&scene, &folder.0.join("scene.png").display().to_string(), "--size", "16"]);
     assert!(output.status.success() && !String::from_utf8_lossy(&output.stdout).contains("black"), "{}", errors(&output));
     let printed = run(&lightshow(), &bytes(&pack(scenes(&readme)[0], Path::new("")).unwrap())).unwrap();
-    assert!(readme.contains(&format!("here `{}`", printed.trim_end())), "{printed}");
+    // wherever the README's lines are wrapped
+    let words = readme.split_whitespace().collect::<Vec<_>>().join(" ");
+    assert!(words.contains(&format!("here `{}`", printed.trim_end())), "{printed}");
 }
 
 /// The documents' pictures are what the commands in them draw.
