@@ -6,6 +6,7 @@ ghost use Rattle.block_abi.specs.PackFile.{packReading, packFile};
 ghost use Rattle.block_abi.specs.FormNumber.{formNumber};
 use block::BlockForm;
 use lighting::OptionalLighting;
+use refusals::Outcome;
 
 // The block of a reading, or 100.
 fn pack_reading(reading: OptionalLighting, words: &mut [u32]) -> u32
@@ -22,10 +23,12 @@ fn pack_reading(reading: OptionalLighting, words: &mut [u32]) -> u32
 pub extern "C" fn block_pack(file: &[u32], words: &mut [u32]) -> u32
     ensures { λ r. ⌜ packingAs r (now (words .exit)) ≡ packFile (now (file .entry)) (now (words .entry)) ⌝ }
 {
-    if file.len() < 474 {
-        return 1;
+    let read = decoding::read(file);
+    let outcome = read.outcome;
+    match outcome {
+        Outcome::Done => pack_reading(read.decoded, words),
+        Outcome::Refused(refusal) => refusals::number(refusal),
     }
-    pack_reading(decoding::decode(file), words)
 }
 
 // What the check finds of a block: 6 and 7 as reading refuses it, 100 where it is off, and of a well-formed one 0 if no word is a NaN's

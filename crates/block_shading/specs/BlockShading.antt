@@ -1,9 +1,11 @@
--- Block shading: a fragment shaded from a block and the tables alone. A fragment's 23 words, what block shading answers with its refusals, and the numbers
--- of its answer's cases. Definitions only. The contract of `block_shading::shade_block` is `blockShading`; the eight k are `shade`'s (Shade of shading).
-use Prim.Native.Nat.{ℕ, zero, suc, _+_}
-use mathlib.Core.List.{List, [], _∷_}
-use mathlib.Core.Bool.{cond}
-use lib.ListN.{getD, length}
+-- Block shading: a fragment shaded from a block and the tables alone. A fragment's 23 words, what block shading answers with its refusals, the same of many
+-- fragments, and the numbers of the answer's cases. Definitions only. The contracts of `block_shading::shade_block` and `shade_fragments` are `blockShading`
+-- and `shadeFragments`; the eight k are `shade`'s (Shade of shading).
+use Prim.Native.Nat.{ℕ, zero, suc, _+_, _*_, _/_, _%_}
+use mathlib.Core.List.{List, [], _∷_, _++_}
+use mathlib.Core.Bool.{cond, _&&_}
+use lib.Dec.{eqb}
+use lib.ListN.{getD, length, take, drop}
 use lib.Ieee.{Float}
 use Rattle.refusals.specs.Refusals.{blockRefusal, tablesRefusal, fragmentRefusal, answerRefusal, _else_, numberOf}
 use Rattle.binary32.specs.Binary32.{floatOf}
@@ -65,6 +67,39 @@ blockShadingIf (suc k) block tables fragment answer = shaded (suc k) answer
 unfoldable pub blockShading : List ℕ → List ℕ → List ℕ → List ℕ → Shaded
 blockShading block tables fragment answer =
     blockShadingIf (blockShadingRefusal block tables fragment answer) block tables fragment answer
+
+-- ---- Many fragments, from one block
+
+-- the eight k of each of n fragments, one after another in the words ws
+unfoldable pub eightOfEach : Lighting → List ℕ → ℕ → List ℕ → List ℕ
+eightOfEach l tables zero ws = []
+eightOfEach l tables (suc n) ws = eightOf l tables (take 23 ws) ++ eightOfEach l tables n (drop 23 ws)
+
+-- 9 where they are not whole fragments, or not 8 answers for each: by the number of words of both
+unfoldable pub fragmentsRefusal : ℕ → ℕ → ℕ
+fragmentsRefusal fragments answers = cond (eqb (fragments % 23) 0 && eqb answers (8 * (fragments / 23))) 0 9
+
+-- 6; 2; 9; 7, as block shading has them
+unfoldable pub shadeFragmentsRefusal : List ℕ → List ℕ → List ℕ → List ℕ → ℕ
+shadeFragmentsRefusal block tables fragments answers =
+    blockRefusal (length block)
+    else tablesRefusal (length tables)
+    else fragmentsRefusal (length fragments) (length answers)
+    else wordsRefusal (words block)
+
+-- 100 for an off block, whose answers are left untouched
+unfoldable pub shadedEachBy : OptionalLighting → List ℕ → List ℕ → List ℕ → Shaded
+shadedEachBy r tables fragments answers =
+    cond (r .on) (shaded 0 (eightOfEach (r .lighting) tables (length fragments / 23) fragments)) (shaded 100 answers)
+
+unfoldable pub shadeFragmentsIf : ℕ → List ℕ → List ℕ → List ℕ → List ℕ → Shaded
+shadeFragmentsIf zero block tables fragments answers = shadedEachBy (blockReading (words block)) tables fragments answers
+shadeFragmentsIf (suc k) block tables fragments answers = shaded (suc k) answers
+
+-- block, tables, fragments, answers
+unfoldable pub shadeFragments : List ℕ → List ℕ → List ℕ → List ℕ → Shaded
+shadeFragments block tables fragments answers =
+    shadeFragmentsIf (shadeFragmentsRefusal block tables fragments answers) block tables fragments answers
 
 -- ---- The numbers of the answer's cases
 

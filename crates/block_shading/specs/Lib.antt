@@ -1,4 +1,5 @@
-pub mod BlockShading
-pub mod Steps
 pub mod AnswersLaws
+pub mod BlockShading
+pub mod FragmentsLaws
 pub mod HeadLaws
+pub mod Steps

@@ -1,15 +1,17 @@
 -- What the code computes of block shading, step by step; nobody has to trust it: HeadLaws ties it to Shade, AnswersLaws to BlockShading. Definitions only.
-use Prim.Native.Nat.{ℕ, _+_, _*_}
+use Prim.Native.Nat.{ℕ, _+_, _*_, _/_}
 use mathlib.Core.List.{List}
-use mathlib.Core.Bool.{Bool, true, false}
-use lib.ListN.{replicate}
+use mathlib.Core.Bool.{Bool, true, false, cond}
+use lib.ListN.{length, replicate}
 use lib.Ieee.{Float}
 use Rattle.lighting.specs.Lighting.{blankLight}
 use Rattle.lighting.specs.declared.Lighting.{Lighting}
-use Rattle.block.specs.Block.{blockLightingWith}
+use Rattle.block.specs.Block.{words, blockLightingWith, blockLighting}
 use Rattle.block.specs.declared.BlockForm.{BlockForm}
 use Rattle.block.specs.declared.BlockForm.the-variants.{Off, NotWellFormed, NanFree, WithNan}
-use Rattle.block_shading.specs.BlockShading.{fourAt}
+use Rattle.block.specs.Steps.{blockForm}
+use Rattle.block_reading.specs.Steps.{isLit}
+use Rattle.block_shading.specs.BlockShading.{Shaded, shaded, fourAt, eightOfEach}
 
 -- the texel of one unit
 abbrev pub texelAt : List ℕ → ℕ → List Float
@@ -25,3 +27,10 @@ isOff Off = true
 isOff NotWellFormed = false
 isOff NanFree = false
 isOff WithNan = false
+
+-- what fragments get by the form of the block, once the lengths are right
+unfoldable pub shadedByForm : List ℕ → List ℕ → List ℕ → List ℕ → Shaded
+shadedByForm block tables fragments answers =
+    cond (isLit (blockForm block)) (shaded 0 (eightOfEach (blockLighting (words block)) tables (length fragments / 23) fragments))
+    (cond (isOff (blockForm block)) (shaded 100 answers)
+    (shaded 7 answers))

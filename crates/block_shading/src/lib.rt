@@ -1,4 +1,4 @@
-// Block shading: a fragment shaded from a block and the tables alone, as a renderer that has only the copy does it. `fragments` has a fragment's 23 words, `slots` the
+// Block shading: fragments shaded from a block and the tables alone, as a renderer that has only the copy does it. `fragments` has a fragment's 23 words, `slots` the
 // shading itself, a light at a time.
 mod fragments;
 pub mod slots;
@@ -6,15 +6,14 @@ pub mod slots;
 use block::BlockForm;
 use block_reading::is_lit;
 use block_reading::is_plain;
-use lighting::Lighting;
 use refusals::Refusal;
 ghost use mathlib.Core.Path.{_≡_};
-ghost use mathlib.Core.Bool.{true};
+ghost use Prim.Native.Nat.{_*_, _/_};
 ghost use lib.ListN.{length};
-ghost use Rattle.lighting.specs.Lighting.{inRange};
 ghost use Rattle.shading.specs.Shade.{shaded};
-ghost use Rattle.block_shading.specs.BlockShading.{eightOf, blockShading, shadedNumber};
-ghost use Rattle.block_shading.specs.Steps.{isOff};
+ghost use Rattle.block.specs.Steps.{blockForm};
+ghost use Rattle.block_shading.specs.BlockShading.{blockShading, shadeFragments, shadedNumber};
+ghost use Rattle.block_shading.specs.Steps.{isOff, shadedByForm};
 
 // What block shading answers: a refusal or off, with the answer slice as it was, or Done.
 pub enum BlockShading {
@@ -33,6 +32,37 @@ pub fn is_off(form: BlockForm) -> bool
         BlockForm::NanFree => false,
         BlockForm::WithNan => false,
     }
+}
+
+// What the form of the block leaves: the channels of each fragment, or off, or a refusal.
+fn shade_by_form(
+    block: &[u32],
+    tables: &[u32],
+    fragments: &[u32],
+    answers: &mut [u32],
+) -> BlockShading
+    requires { ⌜ (length (now block) ≡ 328) × (length (now tables) ≡ 12288) × (length (now answers) ≡ 8 * (length (now fragments) / 23)) ⌝ }
+    ensures { λ r. ⌜ shaded (shadedNumber r) (now (answers .exit)) ≡ shadedByForm (now (block .entry)) (now (tables .entry)) (now (fragments .entry)) (now (answers .entry)) ⌝ }
+{
+    let none = [0u8; 0];
+    let form = block_check::form(block, &none);
+    if is_lit(form) {
+        slots::shade_each(
+            block,
+            &none,
+            tables,
+            &none,
+            fragments,
+            &none,
+            is_plain(form),
+            answers,
+        );
+        return BlockShading::Done;
+    }
+    if is_off(form) {
+        return BlockShading::Off;
+    }
+    BlockShading::Refused(Refusal::NotWellFormed)
 }
 
 // The eight channels of a fragment, 0 to 255, in the printed order.
@@ -56,37 +86,29 @@ pub fn shade_block(
     if answer.len() != 8 {
         return BlockShading::Refused(Refusal::WrongFragment);
     }
-    let none = [0u8; 0];
-    let form = block_check::form(block, &none);
-    if is_lit(form) {
-        let channels = slots::shade_lit(
-            block,
-            &none,
-            tables,
-            &none,
-            fragment,
-            &none,
-            is_plain(form),
-        );
-        shading::answer_words::put(answer, channels);
-        return BlockShading::Done;
-    }
-    if is_off(form) {
-        return BlockShading::Off;
-    }
-    BlockShading::Refused(Refusal::NotWellFormed)
+    shade_by_form(block, tables, fragment, answer)
 }
 
-// The eight channels of a fragment from a lighting that was read already.
-// Asks: a lighting in range, as every reading of a block is, and the right lengths: for all fragments of a draw they are looked at once.
-pub fn shade_fragment(lighting: Lighting, tables: &[u32], fragment: &[u32], answer: &mut [u32])
-    requires { ⌜ inRange lighting ≡ true ⌝ }
-    requires { ⌜ (length (now tables) ≡ 12288) × (length (now fragment) ≡ 23) × (length (now answer) ≡ 8) ⌝ }
-    ensures { λ _. ⌜ now (answer .exit) ≡ eightOf lighting (now (tables .entry)) (now (fragment .entry)) ⌝ }
+// The same of many fragments, 23 words each, with 8 words of the answers for each: the block is checked and its head is read once.
+pub fn shade_fragments(
+    block: &[u32],
+    tables: &[u32],
+    fragments: &[u32],
+    answers: &mut [u32],
+) -> BlockShading
+    ensures { λ r. ⌜ shaded (shadedNumber r) (now (answers .exit)) ≡ shadeFragments (now (block .entry)) (now (tables .entry)) (now (fragments .entry)) (now (answers .entry)) ⌝ }
 {
-    let none = [0u8; 0];
-    shading::answer_words::put(
-        answer,
-        slots::shade_read(lighting, tables, &none, fragment, &none),
-    );
+    if block.len() != 328 {
+        return BlockShading::Refused(Refusal::WrongBlock);
+    }
+    if tables.len() != 12288 {
+        return BlockShading::Refused(Refusal::WrongTables);
+    }
+    if fragments.len() % 23 != 0 {
+        return BlockShading::Refused(Refusal::WrongFragment);
+    }
+    if answers.len() != 8 * (fragments.len() / 23) {
+        return BlockShading::Refused(Refusal::WrongFragment);
+    }
+    shade_by_form(block, tables, fragments, answers)
 }

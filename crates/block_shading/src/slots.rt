@@ -1,5 +1,5 @@
-// The shading of a fragment's words: from a lighting that was read already, and from a block that was found well formed, whose lights are read slot by slot,
-// where they are needed. The block, the tables and the fragment come as words or as bytes.
+// The shading of fragments' words from a block that was found well formed: its head is read once, its lights slot by slot, where they are needed. The block,
+// the tables and the fragments come as words or as bytes.
 use block_reading::light::light_of;
 use light_steps::types::LightingLookups;
 use light_steps::types::Settings;
@@ -10,16 +10,15 @@ use lighting::blank_light;
 use surface::Frame;
 ghost use mathlib.Core.Path.{_≡_};
 ghost use mathlib.Core.Bool.{true};
-ghost use Prim.Native.Nat.{_≤_};
-ghost use lib.ListN.{length};
+ghost use Prim.Native.Nat.{_+_, _*_, _/_, _≤_, _<_};
+ghost use lib.ListN.{length, drop};
 ghost use Rattle.sources.specs.Steps.{given};
-ghost use Rattle.block_shading.specs.BlockShading.{quaternionOf, viewOf, texelsOf};
+ghost use Rattle.block_shading.specs.BlockShading.{quaternionOf, viewOf, texelsOf, eightOf, eightOfEach};
 ghost use Rattle.block.specs.Block.{words, wellFormed, blockLights, blockLighting};
 ghost use Rattle.block.specs.Steps.{nanFree};
-ghost use Rattle.lighting.specs.Lighting.{bumpUnit, shadowUnit, inRange};
+ghost use Rattle.lighting.specs.Lighting.{bumpUnit, shadowUnit};
 ghost use Rattle.block_shading.specs.Steps.{headOf};
 ghost use Rattle.shading.specs.Steps.{sumsBy, lightingFrame, lightingShadow};
-ghost use Rattle.shading.specs.Shade.{shade};
 use crate::fragments;
 
 // The lighting but its lights, which stay blank.
@@ -31,40 +30,25 @@ fn head_of(block: &[u32], bytes: &[u8], plain: bool) -> Lighting
     block_reading::head::lighting_with(block, bytes, plain, lights)
 }
 
-fn frame_of(l: Lighting, fragment: &[u32], bytes: &[u8]) -> Frame
-    requires { ⌜ (bumpUnit (l .bump) ≤ 3) × (length (given (now fragment) (now bytes)) ≡ 23) ⌝ }
-    ensures { λ r. ⌜ r ≡ lightingFrame l (quaternionOf (given (now (fragment .entry)) (now (bytes .entry)))) (viewOf (given (now (fragment .entry)) (now (bytes .entry)))) (texelsOf (given (now (fragment .entry)) (now (bytes .entry)))) ⌝ }
+// Of the fragment whose words start at `at`.
+fn frame_of(l: Lighting, words: &[u32], bytes: &[u8], at: usize) -> Frame
+    requires { ⌜ (bumpUnit (l .bump) ≤ 3) × (at + 23 ≤ length (given (now words) (now bytes))) × (at + 23 < 0x10000000000000000) ⌝ }
+    ensures { λ r. ⌜ r ≡ lightingFrame l (quaternionOf (drop at (given (now (words .entry)) (now (bytes .entry))))) (viewOf (drop at (given (now (words .entry)) (now (bytes .entry))))) (texelsOf (drop at (given (now (words .entry)) (now (bytes .entry))))) ⌝ }
 {
     let bump = l.bump;
-    let quaternion = fragments::quaternion_of(fragment, bytes);
-    let view = fragments::view_of(fragment, bytes);
-    let texel = fragments::texel_at(fragment, bytes, lighting::bump_unit(bump));
+    let quaternion = fragments::quaternion_of(words, bytes, at);
+    let view = fragments::view_of(words, bytes, at);
+    let texel = fragments::texel_at(words, bytes, at, lighting::bump_unit(bump));
     surface::frame_of(bump, texel, l.config, l.needs_view, quaternion, view)
 }
 
-fn shadow_of(l: Lighting, fragment: &[u32], bytes: &[u8]) -> [f32; 4]
-    requires { ⌜ (shadowUnit (l .shadow) ≤ 3) × (length (given (now fragment) (now bytes)) ≡ 23) ⌝ }
-    ensures { λ r. ⌜ r ≡ lightingShadow l (texelsOf (given (now (fragment .entry)) (now (bytes .entry)))) ⌝ }
+fn shadow_of(l: Lighting, words: &[u32], bytes: &[u8], at: usize) -> [f32; 4]
+    requires { ⌜ (shadowUnit (l .shadow) ≤ 3) × (at + 23 ≤ length (given (now words) (now bytes))) × (at + 23 < 0x10000000000000000) ⌝ }
+    ensures { λ r. ⌜ r ≡ lightingShadow l (texelsOf (drop at (given (now (words .entry)) (now (bytes .entry))))) ⌝ }
 {
     let shadow = l.shadow;
-    let texel = fragments::texel_at(fragment, bytes, lighting::shadow_unit(shadow));
+    let texel = fragments::texel_at(words, bytes, at, lighting::shadow_unit(shadow));
     surface::shadow::shadow_texel(shadow, texel)
-}
-
-// The eight channels, 0 to 255, in the printed order, from a lighting that was read already. Of the texels only those that it reads are taken.
-pub(crate) fn shade_read(
-    l: Lighting,
-    tables: &[u32],
-    table_bytes: &[u8],
-    fragment: &[u32],
-    fragment_bytes: &[u8],
-) -> [u32; 8]
-    requires { ⌜ (length (given (now tables) (now «table_bytes»)) ≡ 12288) × (length (given (now fragment) (now «fragment_bytes»)) ≡ 23) × (inRange l ≡ true) ⌝ }
-    ensures { λ r. ⌜ r ≡ shade l (given (now (tables .entry)) (now («table_bytes» .entry))) (quaternionOf (given (now (fragment .entry)) (now («fragment_bytes» .entry)))) (viewOf (given (now (fragment .entry)) (now («fragment_bytes» .entry)))) (texelsOf (given (now (fragment .entry)) (now («fragment_bytes» .entry)))) ⌝ }
-{
-    let frame = frame_of(l, fragment, fragment_bytes);
-    let shadow = shadow_of(l, fragment, fragment_bytes);
-    shading::shade_by(tables, table_bytes, l, frame, shadow)
 }
 
 // The sums of the lit slots. `plain` says that no word of the block is a NaN's pattern.
@@ -107,26 +91,25 @@ fn sum_slots(
     sums
 }
 
-// The eight channels from a block.
-// Asks: the right lengths and a well-formed block, without a NaN's pattern where `plain` is set: its callers, on words and on bytes, have checked them, since
-// an enum that answers with channels cannot be had.
-pub fn shade_lit(
+// The eight channels of the fragment whose words start at `at`, by the block and its head.
+fn shade_one(
     block: &[u32],
     block_bytes: &[u8],
     tables: &[u32],
     table_bytes: &[u8],
-    fragment: &[u32],
+    fragments: &[u32],
     fragment_bytes: &[u8],
+    at: usize,
     plain: bool,
+    head: Lighting,
 ) -> [u32; 8]
-    requires { ⌜ (length (given (now block) (now «block_bytes»)) ≡ 328) × (length (given (now tables) (now «table_bytes»)) ≡ 12288) × (length (given (now fragment) (now «fragment_bytes»)) ≡ 23) ⌝ }
-    requires { ⌜ wellFormed (words (given (now block) (now «block_bytes»))) ≡ true ⌝ }
+    requires { ⌜ (length (given (now block) (now «block_bytes»)) ≡ 328) × (length (given (now tables) (now «table_bytes»)) ≡ 12288) × (at + 23 ≤ length (given (now fragments) (now «fragment_bytes»))) × (at + 23 < 0x10000000000000000) ⌝ }
+    requires { ⌜ (wellFormed (words (given (now block) (now «block_bytes»))) ≡ true) × (head ≡ headOf (words (given (now block) (now «block_bytes»)))) ⌝ }
     requires { ⌜ (plain ≡ true → nanFree (words (given (now block) (now «block_bytes»))) ≡ true) ⌝ }
-    ensures { λ r. ⌜ r ≡ shade (blockLighting (words (given (now (block .entry)) (now («block_bytes» .entry))))) (given (now (tables .entry)) (now («table_bytes» .entry))) (quaternionOf (given (now (fragment .entry)) (now («fragment_bytes» .entry)))) (viewOf (given (now (fragment .entry)) (now («fragment_bytes» .entry)))) (texelsOf (given (now (fragment .entry)) (now («fragment_bytes» .entry)))) ⌝ }
+    ensures { λ r. ⌜ r ≡ eightOf (blockLighting (words (given (now (block .entry)) (now («block_bytes» .entry))))) (given (now (tables .entry)) (now («table_bytes» .entry))) (drop at (given (now (fragments .entry)) (now («fragment_bytes» .entry)))) ⌝ }
 {
-    let head = head_of(block, block_bytes, plain);
-    let frame = frame_of(head, fragment, fragment_bytes);
-    let shadow = shadow_of(head, fragment, fragment_bytes);
+    let frame = frame_of(head, fragments, fragment_bytes, at);
+    let shadow = shadow_of(head, fragments, fragment_bytes, at);
     let lookups = shading::parts::lookups_of(head);
     let settings = shading::parts::settings_of(head, shadow);
     let sums = sum_slots(
@@ -141,4 +124,42 @@ pub fn shade_lit(
         head.light_count,
     );
     shading::parts::finished(head, sums, shadow)
+}
+
+// The eight channels of each fragment, 0 to 255, in the printed order, into its 8 words of the answers.
+// Asks: the right lengths and a well-formed block, without a NaN's pattern where `plain` is set: its callers, on words and on bytes, have checked them. One
+// function serves one fragment and many, since the steps of a light are put into its loop only while they are called from one place.
+pub fn shade_each(
+    block: &[u32],
+    block_bytes: &[u8],
+    tables: &[u32],
+    table_bytes: &[u8],
+    fragments: &[u32],
+    fragment_bytes: &[u8],
+    plain: bool,
+    answers: &mut [u32],
+)
+    requires { ⌜ (length (given (now block) (now «block_bytes»)) ≡ 328) × (length (given (now tables) (now «table_bytes»)) ≡ 12288) × (length (now answers) ≡ 8 * (length (given (now fragments) (now «fragment_bytes»)) / 23)) ⌝ }
+    requires { ⌜ wellFormed (words (given (now block) (now «block_bytes»))) ≡ true ⌝ }
+    requires { ⌜ (plain ≡ true → nanFree (words (given (now block) (now «block_bytes»))) ≡ true) ⌝ }
+    ensures { λ _. ⌜ now (answers .exit) ≡ eightOfEach (blockLighting (words (given (now (block .entry)) (now («block_bytes» .entry))))) (given (now (tables .entry)) (now («table_bytes» .entry))) (length (given (now (fragments .entry)) (now («fragment_bytes» .entry))) / 23) (given (now (fragments .entry)) (now («fragment_bytes» .entry))) ⌝ }
+{
+    let head = head_of(block, block_bytes, plain);
+    let count = sources::count(fragments, fragment_bytes) / 23;
+    let mut i = 0;
+    while i < count {
+        let channels = shade_one(
+            block,
+            block_bytes,
+            tables,
+            table_bytes,
+            fragments,
+            fragment_bytes,
+            23 * i,
+            plain,
+            head,
+        );
+        shading::answer_words::put(answers, 8 * i, channels);
+        i += 1;
+    }
 }

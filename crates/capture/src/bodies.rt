@@ -26,7 +26,7 @@ pub(crate) fn run_bodies(
     out: &mut [u8],
 ) -> Ran
     requires { ⌜ (contentsEnd count ≤ length (now words)) × (gapless (triples (now words) 0 count) (contentsEnd count) (length (now words)) ≡ true) ⌝ }
-    requires { ⌜ (length (now copied) ≡ 12288) × (32 * (length (now words) / 23) ≤ length (now out)) ⌝ }
+    requires { ⌜ 32 * (length (now words) / 23) ≤ length (now out) ⌝ }
     ensures state { λ r. ⌜ lentState (now (file .exit)) (now (tables .exit)) (now (block .exit)) (now (copied .exit)) (r .held) ≡ run ours (lentState (now (file .entry)) (now (tables .entry)) (now (block .entry)) (now (copied .entry)) held) (callsOf (now (words .entry)) (triples (now (words .entry)) 0 count)) ⌝ }
     ensures text { λ r. ⌜ outAt (now (out .exit)) (r .next) ≡ puts (outAt (now (out .entry)) 0) (copyPrints (now (words .entry)) (triples (now (words .entry)) 0 count) (lentState (now (file .entry)) (now (tables .entry)) (now (block .entry)) (now (copied .entry)) held)) ⌝ }
     ensures room { λ r. ⌜ r .next ≤ length (now (out .exit)) ⌝ }

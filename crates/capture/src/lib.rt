@@ -12,17 +12,17 @@ use printing::put_refused;
 use refusals::Outcome;
 use refusals::Refusal;
 ghost use mathlib.Core.Path.{_≡_};
-ghost use Prim.Native.Nat.{_≤_};
+ghost use Prim.Native.Nat.{ℕ, _≤_};
 ghost use lib.ListN.{length};
 ghost use Rattle.printing.specs.Steps.{out as outAt, puts};
 ghost use Rattle.capture_check.specs.Contents.{captureWordsRefusal};
-ghost use Rattle.capture_calls.specs.Capture.{largestOutput, sizeOf, numberBy, capturedBy, printedIf, captures};
+ghost use Rattle.capture_calls.specs.Capture.{largestOutput, sizeOf, numberBy, capturedBy, printedIf, printsInto, captures};
 
 // The words of an input whose size is right: both refusals come before any body runs.
 fn run_words(words: &[u32], out: &mut [u8]) -> Answer
     requires { ⌜ (length (now words) ≤ 16384) × (largestOutput ≤ length (now out)) ⌝ }
     ensures { λ r. ⌜ numberBy r ≡ captureWordsRefusal (now (words .entry)) ⌝ }
-    ensures { λ r. ⌜ (outAt (now (out .exit)) (sizeOf r) ≡ puts (outAt (now (out .entry)) 0) (printedIf (captureWordsRefusal (now (words .entry))) (now (words .entry)))) × (sizeOf r ≤ length (now (out .exit))) ⌝ }
+    ensures { λ r. ⌜ ((n : ℕ) → outAt (now (out .exit)) (sizeOf n r) ≡ puts (outAt (now (out .entry)) 0) (printedIf (captureWordsRefusal (now (words .entry))) (now (words .entry)))) ⌝ }
 {
     let outcome = check_words(words);
     match outcome {
@@ -34,19 +34,31 @@ fn run_words(words: &[u32], out: &mut [u8]) -> Answer
     }
 }
 
-// What a capture prints, at the start of `output`, which has at least 22,784 bytes.
-pub fn run_capture(input: &[u8], output: &mut [u8]) -> Answer
-    ensures { λ r. ⌜ capturedBy r (now (output .exit)) ≡ captures (now (input .entry)) (now (output .entry)) ⌝ }
-    ensures { λ r. ⌜ sizeOf r ≤ length (now (output .exit)) ⌝ }
+// What a capture prints, at the start of `room`.
+fn print_text(input: &[u8], room: &mut [u8]) -> Answer
+    requires { ⌜ largestOutput ≤ length (now room) ⌝ }
+    ensures { λ r. ⌜ ((n : ℕ) → capturedBy r n (now (room .exit)) ≡ printsInto (now (input .entry)) (now (room .entry))) ⌝ }
 {
-    if output.len() < 22784 {
-        return Answer::ShortOutput;
-    }
     if !sized(input.len()) {
-        let size = put_refused(output, 0, 8);
+        let size = put_refused(room, 0, 8);
         return Answer::Refused(Refusal::BadCapture, size);
     }
     let mut words = [0u32; 16384];
     let n = to_words(input, &mut words);
-    run_words(&words[..n], output)
+    run_words(&words[..n], room)
+}
+
+// What a capture prints, at the start of `output`, if it has room for that. No capture prints more than 22,784 bytes.
+pub fn run_capture(input: &[u8], output: &mut [u8]) -> Answer
+    ensures { λ r. ⌜ ((n : ℕ) → capturedBy r n (now (output .exit)) ≡ captures (now (input .entry)) n (now (output .entry))) ⌝ }
+    ensures { λ r. ⌜ sizeOf 0 r ≤ length (now (output .exit)) ⌝ }
+{
+    let mut room = [0u8; 22784];
+    let answer = print_text(input, &mut room);
+    let size = capture_calls::printed_size(answer, 0);
+    if output.len() < size {
+        return capture_calls::unprinted(answer);
+    }
+    bytes::copy(&room[..size], output);
+    answer
 }

@@ -26,7 +26,7 @@ pub struct Ran {
 }
 
 // One body, by its kind: `copied` are the copy's tables.
-// Asks: the copy's tables whole, and room for the lines: a capture's run has made both.
+// Asks: room for the lines: a capture's run has made it.
 pub fn run_body(
     kind: u32,
     body: &[u32],
@@ -38,7 +38,7 @@ pub fn run_body(
     out: &mut [u8],
     at: usize,
 ) -> Ran
-    requires { ⌜ (length (now copied) ≡ 12288) × (at + 32 * (length (now body) / 23) ≤ length (now out)) ⌝ }
+    requires { ⌜ at + 32 * (length (now body) / 23) ≤ length (now out) ⌝ }
     ensures state { λ r. ⌜ lentState (now (file .exit)) (now (tables .exit)) (now (block .exit)) (now (copied .exit)) (r .held) ≡ afterBody (lentState (now (file .entry)) (now (tables .entry)) (now (block .entry)) (now (copied .entry)) held) kind (now (body .entry)) ⌝ }
     ensures text { λ r. ⌜ outAt (now (out .exit)) (r .next) ≡ puts (outAt (now (out .entry)) at) (afterLines (afterBody (lentState (now (file .entry)) (now (tables .entry)) (now (block .entry)) (now (copied .entry)) held) kind (now (body .entry))) kind (now (body .entry))) ⌝ }
     ensures room { λ r. ⌜ r .next ≤ at + 32 * (length (now (body .entry)) / 23) ⌝ }

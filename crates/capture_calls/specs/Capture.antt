@@ -6,7 +6,7 @@ use mathlib.Core.List.{List, [], _∷_, _++_}
 use mathlib.Core.Bool.{cond}
 use lib.Dec.{eqb, leb}
 use lib.ListN.{length, drop}
-use Rattle.refusals.specs.Refusals.{numberOf}
+use Rattle.refusals.specs.Refusals.{numberOf, _else_}
 use Rattle.sources.specs.Sources.{wordsOf}
 use Rattle.shading.specs.Shade.{Shaded}
 use Rattle.lists.specs.Calls.{Call}
@@ -18,7 +18,7 @@ use Rattle.printing.specs.Printing.{refusedLine}
 use Rattle.capture_check.specs.Contents.{Body, wordsIn, contents, captureRefusal}
 use Rattle.capture_lines.specs.Lines.{noAnswer, bodyLines}
 use Rattle.capture_calls.specs.declared.Answer.{Answer}
-use Rattle.capture_calls.specs.declared.Answer.the-variants.{Printed, Refused, ShortOutput}
+use Rattle.capture_calls.specs.declared.Answer.the-variants.{Printed, Refused, Unprinted, ShortOutput}
 
 -- ---- the calls of a body
 
@@ -78,7 +78,7 @@ printed input = printedIf (captureRefusal input) (wordsOf input)
 abbrev pub largestOutput : ℕ
 largestOutput = 22784
 
--- the number of an output that is shorter: no refusal of document 01, nor of a later request
+-- the number of an output without room for what is printed: no refusal of document 01, nor of a later request
 abbrev pub shortOutput : ℕ
 shortOutput = 101
 
@@ -91,25 +91,30 @@ pub record Captured : Type 0 where
 abbrev pub captured : ℕ → ℕ → List ℕ → Captured
 captured k n o = record { number = k; size = n; output = o }
 
--- of an input and an output: the capture's number, 0, 8 or 3, and what it prints at the output's start; a short output is left as it is
-unfoldable pub captures : List ℕ → List ℕ → Captured
-captures input o =
-    cond (leb largestOutput (length o))
-    (captured (captureRefusal input) (length (printed input)) (printed input ++ drop (length (printed input)) o))
-    (captured shortOutput 0 o)
+-- in the output o, at its start: the capture's number, 0, 8 or 3, and what it prints, `refused N` included
+unfoldable pub printsInto : List ℕ → List ℕ → Captured
+printsInto input o = captured (captureRefusal input) (length (printed input)) (printed input ++ drop (length (printed input)) o)
+
+-- of an input, the number of bytes printed before, and an output: one without room is left, and so is that number. The paper's refusals come first.
+unfoldable pub captures : List ℕ → ℕ → List ℕ → Captured
+captures input n o =
+    cond (leb (length (printed input)) (length o)) (printsInto input o)
+    (captured (captureRefusal input else shortOutput) n o)
 
 -- "Where an answer is an enum, a definition gives, for each of its cases, this paper's number and values": its number
 abbrev pub numberBy : Answer → ℕ
 numberBy (Printed n) = 0
 numberBy (Refused k n) = numberOf k
+numberBy (Unprinted k) = numberOf k
 numberBy ShortOutput = shortOutput
 
--- how many bytes it says are printed
-abbrev pub sizeOf : Answer → ℕ
-sizeOf (Printed n) = n
-sizeOf (Refused k n) = n
-sizeOf ShortOutput = 0
+-- how many bytes are printed, where it was n before
+abbrev pub sizeOf : ℕ → Answer → ℕ
+sizeOf n (Printed m) = m
+sizeOf n (Refused k m) = m
+sizeOf n (Unprinted k) = n
+sizeOf n ShortOutput = n
 
 -- and both, where it left the output o
-abbrev pub capturedBy : Answer → List ℕ → Captured
-capturedBy a o = captured (numberBy a) (sizeOf a) o
+abbrev pub capturedBy : Answer → ℕ → List ℕ → Captured
+capturedBy a n o = captured (numberBy a) (sizeOf n a) o

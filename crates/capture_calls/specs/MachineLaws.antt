@@ -24,7 +24,7 @@ use Rattle.capture_check.specs.ContentsLaws.{lies-end, gapless-head, gapless-re
 use Rattle.capture_lines.specs.Lines.{noAnswer, fragmentLines, bodyLines}
 use Rattle.capture_lines.specs.Steps.{blockShades}
 use Rattle.capture_lines.specs.LinesLaws.{lines-alike, body-fits}
-use Rattle.capture_lines.specs.ChannelLaws.{eight-long}
+use Rattle.block_shading.specs.FragmentsLaws.{eight-long}
 use Rattle.capture_calls.specs.Capture.{handOverCall, bodyCalls, machineAfter, machineShades, machinePrints}
 use Rattle.capture_calls.specs.Steps.{afterBody, afterLines, copyPrints}
 use Rattle.capture_calls.specs.CallLaws.{kind-2-hands-over, body-calls-few, words-in-few}

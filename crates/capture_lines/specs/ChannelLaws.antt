@@ -1,9 +1,7 @@
 -- Shading answers eight numbers, each a byte's: every one of them is a quantised channel. Assumes nothing.
 use Prim.Native.Nat.{ℕ, zero, suc}
 use native.Mathlib.Omega.{arith}
-use mathlib.Core.Path.{_≡_, refl}
 use mathlib.Core.List.{List}
-use lib.ListN.{length}
 use Rattle.binary32.specs.QuantizeLaws.{quantized-byte}
 use Rattle.lighting.specs.declared.Lighting.{Lighting}
 use Rattle.shading.specs.Shade.{shade}
@@ -21,7 +19,3 @@ eight-bytes l t q (suc (suc (suc (suc (suc zero))))) = quantized-byte _
 eight-bytes l t q (suc (suc (suc (suc (suc (suc zero)))))) = quantized-byte _
 eight-bytes l t q (suc (suc (suc (suc (suc (suc (suc zero))))))) = quantized-byte _
 eight-bytes l t q (suc (suc (suc (suc (suc (suc (suc (suc i)))))))) = omega arith
-
-pub eight-long : (l : Lighting) (t q : List ℕ) → length (eightOf l t q) ≡ 8
-unfolding eightOf shade
-eight-long l t q = refl

@@ -1,4 +1,5 @@
-pub mod Lines
-pub mod Steps
 pub mod ChannelLaws
+pub mod FormedLaws
+pub mod Lines
 pub mod LinesLaws
+pub mod Steps

@@ -1,4 +1,4 @@
--- What the code computes step by step; nobody has to trust it: `print_fragments`' contract ties it to the law, `Lines`. A block that is read once answers every fragment
+-- What the code computes step by step; nobody has to trust it: `print_fragments`' contract ties it to the law, `Lines`. A block that is checked once answers every fragment
 -- as a lighting, or by one number. Definitions only.
 use Prim.Native.Nat.{ℕ}
 use mathlib.Core.List.{List}

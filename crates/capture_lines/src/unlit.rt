@@ -1,27 +1,13 @@
 // The lines of fragments that no lighting colours: `off`, or a refusal.
 use printing::put_off;
 use printing::put_refused;
-use refusals::Outcome;
 ghost use mathlib.Core.Path.{_≡_};
-ghost use mathlib.Core.Bool.{cond};
 ghost use Prim.Native.Nat.{_+_, _*_, _/_, _≤_, _<_};
-ghost use lib.Dec.{eqb};
 ghost use lib.ListN.{length};
-ghost use Rattle.refusals.specs.Refusals.{outcomeNumber};
 ghost use Rattle.shading.specs.Shade.{shaded};
 ghost use Rattle.printing.specs.Steps.{out as outAt, puts};
 ghost use Rattle.capture_lines.specs.Lines.{noAnswer, shownLine, fragmentLines};
 ghost use Rattle.capture_lines.specs.Steps.{unlitShades};
-
-// What shading answers from a block that isn't lit: 100 where it is off, or the refusal's number.
-pub(crate) fn unlit_number(outcome: Outcome) -> u32
-    ensures { λ r. ⌜ (r ≡ cond (eqb (outcomeNumber outcome) 0) 100 (outcomeNumber outcome)) × (0 < r) × (r < 1000) ⌝ }
-{
-    match outcome {
-        Outcome::Done => 100,
-        Outcome::Refused(refusal) => refusals::number(refusal),
-    }
-}
 
 // The line of a fragment that isn't lit: `off` for 100, else a refusal's number.
 fn print_unlit(number: u32, out: &mut [u8], at: usize) -> usize

@@ -86,7 +86,7 @@ fn make_words(input: &mut [u8], at: usize, kind: u32, count: u32, seed: u32) -> 
 fn run(input: &[u8], number: u64) {
     let mut output = [0u8; 22784];
     let answer = capture::run_capture(input, &mut output);
-    let size = capture_calls::printed_size(answer);
+    let size = capture_calls::printed_size(answer, 0);
     io::write_all(STDOUT_FILENO, b"capture ");
     io::print_decimal(STDOUT_FILENO, number);
     io::write_all(STDOUT_FILENO, b"\n");

@@ -7,6 +7,7 @@ ghost use lib.Ieee.{nan};
 ghost use Rattle.binary32.specs.Binary32.{floatOf, wordOf, magnitudeOf, maxOf, minOf, clampOf, floorOf, unsignedPlaceOf, signedPlaceOf, quantizedOf};
 ghost use Rattle.fields.specs.Fields.{uploadValueBits, uploadStepBits, colourOf, fixedOf, shortFloat};
 ghost use Rattle.root.specs.Root.{rootOf};
+ghost use Rattle.tables.specs.Tables.{tableLookup};
 ghost use Rattle.vectors.specs.Vectors.{dotOf, crossOf, normalizedOf, rotateOf};
 
 #[no_mangle]
@@ -193,4 +194,11 @@ pub extern "C" fn compare_rotate(
     let v = vectors::rotation::rotate([q0, q1, q2, q3], [v0, v1, v2]);
     let i = (at % 3) as usize;
     v[i]
+}
+
+#[no_mangle]
+pub extern "C" fn compare_lookup(entries: &[u32], table: u32, entry: u8, delta: f32) -> f32
+    ensures { λ r. ⌜ r ≡ tableLookup (now (entries .entry)) table entry delta ⌝ }
+{
+    tables::entries::lookup(entries, table, entry, delta)
 }

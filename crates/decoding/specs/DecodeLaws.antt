@@ -1,7 +1,7 @@
 -- What callers need to know of `read`: it looks at no register but the 139 of `registersRead`, every word that a definition reads being one of
 -- them; and it is off or a lighting within the limits that packing asks for. Assumes nothing.
 use Prim.Native.Nat.{ℕ}
-use mathlib.Core.Path.{_≡_, _∙_, sym}
+use mathlib.Core.Path.{_≡_, refl, _∙_, sym}
 use mathlib.Core.Bool.{Bool, true, false, cond}
 use mathlib.Core.List.{List}
 use native.Mathlib.Omega.{arith}
@@ -41,3 +41,21 @@ read-either P f is-on is-off = rw (read-law f) (go (lightingOn f))
     go : (b : Bool) → P (cond b (record { on = true; lighting = lightingOf f }) off)
     go true = is-on (lightingOf f) (lighting-limits f)
     go false = is-off
+
+-- the two cases of a reading
+module _ (f : List ℕ) where
+  pub read-on : read f .on ≡ lightingOn f
+  unfolding readSteps
+  read-on = rw (read-law f) (go (lightingOn f))
+    where
+      go : (b : Bool) → cond b (record { on = true; lighting = lightingOf f }) off .on ≡ b
+      go true = refl
+      go false = refl
+
+  pub read-lit : read f .on ≡ true → read f ≡ record { on = true; lighting = lightingOf f }
+  unfolding readSteps
+  read-lit e = read-law f ∙ rw (sym read-on ∙ e) refl
+
+  pub read-unlit : read f .on ≡ false → read f ≡ off
+  unfolding readSteps
+  read-unlit e = read-law f ∙ rw (sym read-on ∙ e) refl

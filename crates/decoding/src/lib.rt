@@ -17,11 +17,13 @@ use crate::registers::REG_DISABLE;
 use crate::registers::REG_ENABLE;
 use crate::registers::flag;
 use crate::registers::register;
+use lighting::Lighting;
 use lighting::OptionalLighting;
 use lighting::blank_lighting;
 use refusals::Outcome;
 use refusals::Refusal;
 ghost use mathlib.Core.Path.{_≡_};
+ghost use mathlib.Core.Bool.{true};
 ghost use Rattle.lighting.specs.Lighting.{off as offOf};
 ghost use Rattle.decoding.specs.Read.{read as readOf, fileRead, fileReadOf};
 
@@ -34,11 +36,27 @@ fn off() -> OptionalLighting
     }
 }
 
+// Whether the registers set up a lighting.
+pub fn is_on(file: &[u32]) -> bool
+    ensures { λ r. ⌜ r ≡ readOf (now (file .entry)) .on ⌝ }
+{
+    flag(register(file, REG_ENABLE), 0) & !flag(register(file, REG_DISABLE), 0)
+}
+
+// The lighting of a register file that sets one up.
+// Asks: that it does; whoever packs it at once has no use for an optional one.
+pub fn read_lit(file: &[u32]) -> Lighting
+    requires { ⌜ readOf (now file) .on ≡ true ⌝ }
+    ensures { λ r. ⌜ r ≡ readOf (now (file .entry)) .lighting ⌝ }
+{
+    lighting(file)
+}
+
 // The lighting of a register file, or off. A file too short to hold a register is taken to hold 0 there.
 pub fn decode(file: &[u32]) -> OptionalLighting
     ensures { λ r. ⌜ r ≡ readOf (now (file .entry)) ⌝ }
 {
-    if flag(register(file, REG_ENABLE), 0) & !flag(register(file, REG_DISABLE), 0) {
+    if is_on(file) {
         OptionalLighting {
             on: true,
             lighting: lighting(file),

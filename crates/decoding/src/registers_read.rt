@@ -16,8 +16,8 @@ ghost use Rattle.sources.specs.Sources.{sameWords};
 
 // How many of `count` words differ, from `from` on in the file and from `at` on in the kept words. It looks at all of them: that is
 // quicker than to stop at the first.
-fn differing(file: &[u32], from: usize, kept: &[u32; 139], at: usize, count: usize) -> u32
-    requires { ⌜ (from + count ≤ length (now file)) × (at + count ≤ 139) ⌝ }
+fn differing(file: &[u32], from: usize, kept: &[u32], at: usize, count: usize) -> u32
+    requires { ⌜ (from + count ≤ length (now file)) × (at + count ≤ length (now kept)) × (count ≤ 139) ⌝ }
     ensures { λ r. ⌜ (r ≡ differences (now (file .entry)) from (now (kept .entry)) at count) × (r ≤ count) ⌝ }
 {
     let mut found = 0;
@@ -30,8 +30,8 @@ fn differing(file: &[u32], from: usize, kept: &[u32; 139], at: usize, count: usi
 }
 
 // Whether the words that `read` takes are the kept ones.
-// Asks: a file that its caller has not refused, so that no word is tested for being there.
-pub fn current(file: &[u32], filled: bool, kept: &[u32; 139]) -> bool
+// Asks: a file that its caller has not refused, and all the kept words, so that no word is tested for being there.
+pub fn current(file: &[u32], filled: bool, kept: &[u32]) -> bool
     requires { ⌜ (474 ≤ length (now file)) × (length (now kept) ≡ 139) ⌝ }
     ensures { λ r. ⌜ r ≡ (filled && sameWords (now (kept .entry)) (registersRead (now (file .entry)))) ⌝ }
 {
@@ -43,13 +43,12 @@ pub fn current(file: &[u32], filled: bool, kept: &[u32; 139]) -> bool
     filled & (enable + lights + disable + tables + slots == 0)
 }
 
-// The words that `read` takes, of all the lights whichever it decodes.
+// The words that `read` takes, of all the lights whichever it decodes, into the kept ones.
 // Asks: as `current`.
-pub fn registers_read(file: &[u32]) -> [u32; 139]
-    requires { ⌜ 474 ≤ length (now file) ⌝ }
-    ensures { λ r. ⌜ r ≡ registersRead (now (file .entry)) ⌝ }
+pub fn keep(file: &[u32], kept: &mut [u32])
+    requires { ⌜ (474 ≤ length (now file)) × (length (now kept) ≡ 139) ⌝ }
+    ensures { λ _. ⌜ now (kept .exit) ≡ registersRead (now (file .entry)) ⌝ }
 {
-    let mut kept = [0; 139];
     kept[0] = file[REG_ENABLE];
     // from REG_LIGHTS on
     let mut j = 1;
@@ -62,5 +61,15 @@ pub fn registers_read(file: &[u32]) -> [u32; 139]
     kept[136] = file[REG_TABLE_INPUT];
     kept[137] = file[REG_TABLE_SCALE];
     kept[138] = file[REG_LIGHT_SLOTS];
+}
+
+// The same as a value.
+// Asks: as `current`.
+pub fn registers_read(file: &[u32]) -> [u32; 139]
+    requires { ⌜ 474 ≤ length (now file) ⌝ }
+    ensures { λ r. ⌜ r ≡ registersRead (now (file .entry)) ⌝ }
+{
+    let mut kept = [0; 139];
+    keep(file, &mut kept);
     kept
 }

@@ -1,13 +1,39 @@
--- Block shading across the C boundary. "Across the boundary these are byte slices: a word, and each k, is four little-endian bytes, and a slice that isn't whole words counts as of wrong
--- length." First words and bytes, then block shading of bytes. Definitions only.
-use Prim.Native.Nat.{ℕ, _/_, _%_}
+-- The calls across the C boundary, where they say more than the definitions that their contracts cite elsewhere: a list of writes, the block reader, and block
+-- shading of bytes. "Across the boundary these are byte slices: a word, and each k, is four little-endian bytes, and a slice that isn't whole words counts as of
+-- wrong length." Definitions only.
+use Prim.Native.Nat.{ℕ, zero, suc, _/_, _%_}
 use mathlib.Core.List.{List, [], _∷_}
 use mathlib.Core.Bool.{cond}
 use lib.Dec.{eqb}
 use lib.ListN.{length}
+use Rattle.refusals.specs.Refusals.{fileRefusal, tablesRefusal, _else_}
 use Rattle.sources.specs.Sources.{wordsOf}
+use Rattle.tables.specs.Tables.{Writes, writes, writeEach}
+use Rattle.block.specs.Block.{blockRead}
 use Rattle.shading.specs.Shade.{Shaded, shaded}
 use Rattle.block_shading.specs.BlockShading.{blockShading}
+
+-- ---- a list of writes
+
+-- 101 where the words are not in pairs
+unfoldable pub pairsRefusal : ℕ → ℕ
+pairsRefusal n = cond (eqb (n % 2) 0) 0 101
+
+-- refused by a length, nothing changes, nor does d, the number that tells how many were made
+unfoldable pub writeListIf : ℕ → List ℕ → List ℕ → ℕ → List ℕ → ℕ → Writes
+writeListIf zero f t g pairs d = writeEach (writes 0 0 f t g) pairs
+writeListIf (suc k) f t g pairs d = writes (suc k) d f t g
+
+-- file, tables, generation; pairs of register and value; that number
+abbrev pub writeList : List ℕ → List ℕ → ℕ → List ℕ → ℕ → Writes
+writeList f t g pairs d =
+    writeListIf (fileRefusal (length f) else tablesRefusal (length t) else pairsRefusal (length pairs)) f t g pairs d
+
+-- ---- the block reader
+
+-- the refusal's number, or 0 where the block is lit and 100 where it is off
+unfoldable pub readNumber : List ℕ → ℕ
+readNumber b = blockRead b .number else cond (blockRead b .reading .on) 0 100
 
 -- ---- words and bytes
 

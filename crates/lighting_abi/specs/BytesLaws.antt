@@ -1,6 +1,6 @@
 -- A slice has 4 n bytes exactly if its words are n, whole words or none being counted. So each of block shading's answers is that of the bytes: a refusal by
 -- its length, or what the block gives the fragment. Assumes nothing.
-use Prim.Native.Nat.{ℕ, _*_, _%_, _<_}
+use Prim.Native.Nat.{ℕ, _*_, _/_, _%_, _<_}
 use native.Mathlib.Omega.{arith}
 use mathlib.Core.Path.{_≡_, refl, sym, ap, subst, _∙_}
 use mathlib.Core.Bool.{Bool, true, false, cond}
@@ -13,9 +13,9 @@ use Rattle.sources.specs.Steps.{given}
 use Rattle.sources.specs.SourcesLaws.{length-words, given-bytes}
 use Rattle.lighting_abi.specs.Boundary.{bytesOf, wholeWords, answerBytes, shadeBytes}
 use Rattle.shading.specs.Shade.{Shaded, shaded}
-use Rattle.block_shading.specs.BlockShading.{eightOf}
-use Rattle.block_shading.specs.Steps.{isOff}
-use Rattle.block_shading.specs.AnswersLaws.{wrong-block, wrong-tables, wrong-fragment, wrong-answer, lit-answer, off-answer, bad-answer}
+use Rattle.block_shading.specs.BlockShading.{eightOfEach}
+use Rattle.block_shading.specs.Steps.{isOff, shadedByForm}
+use Rattle.block_shading.specs.AnswersLaws.{wrong-block, wrong-tables, wrong-fragment, wrong-answer, by-form-of-one}
 use Rattle.block.specs.Block.{words, blockLighting}
 use Rattle.block.specs.Steps.{blockForm}
 use Rattle.block_reading.specs.Steps.{isLit}
@@ -84,21 +84,21 @@ module _ (block tables fragment answer : List ℕ) where
           gf : given [] fragment ≡ wholeWords fragment
           gf = given-whole fragment 23 (omega arith) f
 
-          pub lit-bytes : isLit (blockForm (given [] block)) ≡ true
-              → shaded 0 (bytesOf (eightOf (blockLighting (words (given [] block))) (given [] tables) (given [] fragment))) ≡ shadeBytes block tables fragment answer
-          unfolding shadeBytes answerBytes
-          lit-bytes h =
+          by-words : answerBytes (shadedByForm (given [] block) (given [] tables) (given [] fragment) (wholeWords answer)) answer ≡ shadeBytes block tables fragment answer
+          unfolding shadeBytes
+          by-words =
               ap (λ (s : Shaded). answerBytes s answer)
-              (rw (gb, gt, gf) (lit-answer (wholeWords block) (wholeWords tables) (wholeWords fragment) (wholeWords answer) (right-length block 328 b) (right-length tables 12288 t) (right-length fragment 23 f) (right-length answer 8 a) (sym (ap (λ (l : List ℕ). isLit (blockForm l)) gb) ∙ h)))
+              (rw (gb, gt, gf) (by-form-of-one (wholeWords block) (wholeWords tables) (wholeWords fragment) (wholeWords answer) (right-length fragment 23 f) (right-length answer 8 a) (right-length block 328 b) (right-length tables 12288 t)))
 
-          pub off-bytes : isOff (blockForm (given [] block)) ≡ true → shaded 100 answer ≡ shadeBytes block tables fragment answer
-          unfolding shadeBytes answerBytes
-          off-bytes h =
-              left 100 _ _ answer refl
-              (off-answer (wholeWords block) (wholeWords tables) (wholeWords fragment) (wholeWords answer) (right-length block 328 b) (right-length tables 12288 t) (right-length fragment 23 f) (right-length answer 8 a) (sym (ap (λ (l : List ℕ). isOff (blockForm l)) gb) ∙ h))
+          pub lit-bytes : isLit (blockForm (given [] block)) ≡ true
+              → shaded 0 (bytesOf (eightOfEach (blockLighting (words (given [] block))) (given [] tables) (length (given [] fragment) / 23) (given [] fragment))) ≡ shadeBytes block tables fragment answer
+          unfolding shadedByForm answerBytes
+          lit-bytes h = rw h at by-words
+
+          pub off-bytes : isLit (blockForm (given [] block)) ≡ false → isOff (blockForm (given [] block)) ≡ true → shaded 100 answer ≡ shadeBytes block tables fragment answer
+          unfolding shadedByForm answerBytes
+          off-bytes l o = rw (l, o) at by-words
 
           pub bad-bytes : isLit (blockForm (given [] block)) ≡ false → isOff (blockForm (given [] block)) ≡ false → shaded 7 answer ≡ shadeBytes block tables fragment answer
-          unfolding shadeBytes answerBytes
-          bad-bytes l o =
-              left 7 _ _ answer refl
-              (bad-answer (wholeWords block) (wholeWords tables) (wholeWords fragment) (wholeWords answer) (right-length block 328 b) (right-length tables 12288 t) (right-length fragment 23 f) (right-length answer 8 a) (sym (ap (λ (x : List ℕ). isLit (blockForm x)) gb) ∙ l) (sym (ap (λ (x : List ℕ). isOff (blockForm x)) gb) ∙ o))
+          unfolding shadedByForm answerBytes
+          bad-bytes l o = rw (l, o) at by-words

@@ -1,3 +1,4 @@
 pub mod Boundary
-pub mod Steps
 pub mod BytesLaws
+pub mod ReaderLaws
+pub mod Steps

@@ -34,9 +34,9 @@ fn read_input(buf: &mut [u8]) -> Input
 // The output that the program lends is never too short.
 fn size_of(answer: Answer) -> usize
     requires { ⌜ (numberBy answer ≡ shortOutput → ⊥) ⌝ }
-    ensures { λ r. ⌜ r ≡ sizeOf answer ⌝ }
+    ensures { λ r. ⌜ r ≡ sizeOf 0 answer ⌝ }
 {
-    capture_calls::printed_size(answer)
+    capture_calls::printed_size(answer, 0)
 }
 
 fn show(input: &[u8]) {

@@ -36,7 +36,9 @@ fn put_slot(block: &mut [u32], slot: Slot, lit: bool, light: Light)
     }
 }
 
-fn fill(block: &mut [u32], l: Lighting)
+// All 328 words.
+// Asks: a block's length and a lighting in range, as every decoded one is, so that none of its parts is looked at again.
+pub fn fill(block: &mut [u32], l: Lighting)
     requires { ⌜ (length (now block) ≡ 328) × (inRange l ≡ true) ⌝ }
     ensures { λ _. ⌜ now (block .exit) ≡ packed l ⌝ }
 {

@@ -1,2 +1,2 @@
 -- Facts that the functions' proofs share.
-mod Eight
+pub mod Eight

@@ -1,19 +1,18 @@
-// The eight channels as the answer's words.
+// The eight channels as words of an answer.
 ghost use mathlib.Core.Path.{_≡_};
-ghost use lib.ListN.{length};
+ghost use mathlib.Core.List.{_++_};
+ghost use Prim.Native.Nat.{_+_, _≤_, _<_};
+ghost use lib.ListN.{length, take, drop};
 
-// The eight channels into the answer slice.
-// Asks: an answer of 8 words; any other is refused before a channel is worked out.
-pub fn put(answer: &mut [u32], k: [u32; 8])
-    requires { ⌜ length (now answer) ≡ 8 ⌝ }
-    ensures { λ _. ⌜ now (answer .exit) ≡ k ⌝ }
+// The eight channels into the 8 words from `at` on.
+// Asks: words for all of them; an answer that is too short is refused before a channel is worked out.
+pub fn put(answer: &mut [u32], at: usize, k: [u32; 8])
+    requires { ⌜ (at + 8 ≤ length (now answer)) × (at + 8 < 0x10000000000000000) ⌝ }
+    ensures { λ _. ⌜ now (answer .exit) ≡ take at (now (answer .entry)) ++ (k ++ drop (at + 8) (now (answer .entry))) ⌝ }
 {
-    answer[0] = k[0];
-    answer[1] = k[1];
-    answer[2] = k[2];
-    answer[3] = k[3];
-    answer[4] = k[4];
-    answer[5] = k[5];
-    answer[6] = k[6];
-    answer[7] = k[7];
+    let mut j = 0;
+    while j < 8 {
+        answer[at + j] = k[j];
+        j += 1;
+    }
 }

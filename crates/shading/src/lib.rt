@@ -83,6 +83,7 @@ pub fn shade(
         let none = [0u8; 0];
         answer_words::put(
             answer,
+            0,
             shade_in_range(lighting, tables, &none, quaternion, view, texels),
         );
         return Outcome::Done;

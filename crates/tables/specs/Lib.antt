@@ -4,3 +4,4 @@ pub mod RefusalLaws
 pub mod UploadLaws
 pub mod WriteLaws
 pub mod RestoreLaws
+pub mod ListLaws

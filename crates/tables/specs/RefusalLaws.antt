@@ -7,8 +7,22 @@ use mathlib.Core.List.{List}
 use lib.ListN.{length}
 use lib.Dec.{ltb, leb, eqb, eqb·suc-zero}
 use borrow.Author.Tests.{leb-true, ltb-true, eqb-true}
-use Rattle.refusals.specs.Refusals.{fileRefusal, tablesRefusal, registerRefusal, savedRefusal, _else_}
+use Rattle.refusals.specs.Refusals.{numberOf, fileRefusal, tablesRefusal, registerRefusal, savedRefusal, _else_}
+use Rattle.refusals.specs.declared.Refusal.{Refusal}
+use Rattle.refusals.specs.declared.Refusal.the-variants.{ShortFile, WrongTables, HighRegister, LastGeneration, WrongSaved, WrongBlock, NotWellFormed, BadCapture, WrongFragment}
 use Rattle.tables.specs.Tables.{writeRefusal, restoreRefusal}
+
+-- no refusal is 0
+pub refusal-not-zero : (k : Refusal) → numberOf k ≡ 0 → ⊥
+refusal-not-zero ShortFile e = omega arith
+refusal-not-zero WrongTables e = omega arith
+refusal-not-zero HighRegister e = omega arith
+refusal-not-zero LastGeneration e = omega arith
+refusal-not-zero WrongSaved e = omega arith
+refusal-not-zero WrongBlock e = omega arith
+refusal-not-zero NotWellFormed e = omega arith
+refusal-not-zero BadCapture e = omega arith
+refusal-not-zero WrongFragment e = omega arith
 
 -- the first of two
 pub else-left : (a b : ℕ) → a else b ≡ 0 → a ≡ 0

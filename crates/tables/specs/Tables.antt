@@ -1,10 +1,10 @@
--- The register file, the tables and their generation: register write, upload, restore, save and lookup. To be read beside "The write arrives", "Table
+-- The register file, the tables and their generation: register write, upload, a list of writes, restore, save and lookup. To be read beside "The write arrives", "Table
 -- upload" and "Refusals by operation" of document 01, whose sentences are quoted, and beside `Tables` of the Rust. Definitions only.
 -- A register file f and a table slice t are lists of words; `getD t i 0` is t[i], and `set t i w` is t with the word w at i.
 -- From elsewhere: the bits of an uploaded word's value and step (fields), a word as a float (binary32), and the refusals by length and register.
 use Prim.Native.Nat.{ℕ, zero, suc, _+_, _-_, _*_, _/_, _%_}
 use mathlib.Core.Bool.{Bool, true, false, cond, not, _&&_}
-use mathlib.Core.List.{List}
+use mathlib.Core.List.{List, [], _∷_}
 use lib.Dec.{eqb, ltb, leb}
 use lib.ListN.{getD, set, length}
 use lib.Ieee.{Float, binary32, add, mul}
@@ -14,6 +14,7 @@ use Rattle.binary32.specs.Binary32.{floatOf}
 use Rattle.fields.specs.Fields.{uploadValueBits, uploadStepBits}
 use Rattle.tables.specs.declared.Written.{Written}
 use Rattle.tables.specs.declared.Written.the-variants.{Refused, Done}
+use Rattle.tables.specs.declared.WrittenEach.{WrittenEach}
 
 -- ---- The entry that register 1C5 names
 
@@ -114,6 +115,37 @@ write f t g r v = writeIf (writeRefusal (length f) (length t) r) f t g r v
 abbrev pub wroteOf : Written → ℕ → List ℕ → List ℕ → Wrote
 wroteOf (Refused k) g f t = wrote (numberOf k) f t g
 wroteOf (Done h) g f t = wrote 0 f t h
+
+-- ---- A list of writes, one after another, up to the first that is refused
+
+-- what it gives: 0 or that write's number, how many were made before it, and the file, the tables and the generation after those
+pub record Writes : Type 0 where
+  pub number : ℕ
+  pub done : ℕ
+  pub file : List ℕ
+  pub tables : List ℕ
+  pub generation : ℕ
+
+abbrev pub writes : ℕ → ℕ → List ℕ → List ℕ → ℕ → Writes
+writes k n f t g = record { number = k; done = n; file = f; tables = t; generation = g }
+
+-- n were made before the write w
+unfoldable pub counted : ℕ → Wrote → Writes
+counted n w = writes (w .number) (cond (eqb (w .number) 0) (n + 1) n) (w .file) (w .tables) (w .generation)
+
+-- one more, unless one was refused
+unfoldable pub thenWrite : Writes → ℕ → ℕ → Writes
+thenWrite s r v = cond (eqb (s .number) 0) (counted (s .done) (write (s .file) (s .tables) (s .generation) r v)) s
+
+-- pairs of register and value
+unfoldable pub writeEach : Writes → List ℕ → Writes
+writeEach s [] = s
+writeEach s (r ∷ []) = s
+writeEach s (r ∷ v ∷ rest) = writeEach (thenWrite s r v) rest
+
+-- what an answer says, where the call left the file f and the tables t
+abbrev pub writesOf : WrittenEach → List ℕ → List ℕ → Writes
+writesOf r f t = writes (outcomeNumber (r .outcome)) (r .done) f t (r .generation)
 
 -- ---- Restore
 

@@ -7,8 +7,9 @@ use crate::Written;
 use refusals::Outcome;
 use refusals::Refusal;
 
-// All of `from` into `to`, which is as long.
-fn copy(to: &mut [u32], from: &[u32])
+// All of `from` into `to`.
+// Asks: two of one length; the lengths of a call's slices are looked at before any is changed.
+pub fn copy(to: &mut [u32], from: &[u32])
     requires { ⌜ length (now to) ≡ length (now from) ⌝ }
     ensures { λ _. ⌜ now (to .exit) ≡ now (from .entry) ⌝ }
 {

@@ -5,12 +5,12 @@ use mathlib.Core.List.{List, _∷_, _++_}
 use mathlib.Core.Bool.{Bool, not, _&&_, _||_}
 use lib.Dec.{eqb}
 use lib.ListN.{length, getD, take, drop, replicate}
-use Rattle.refusals.specs.Refusals.{fileRefusal, _else_}
+use Rattle.refusals.specs.Refusals.{fileRefusal, blockRefusal, _else_}
 use Rattle.sources.specs.Sources.{sameWords}
 use Rattle.lighting.specs.Forms.{if_then_else_}
 use Rattle.decoding.specs.Read.{read, registersRead, registersReadCount}
 use Rattle.block.specs.Block.{words, allZero, wellFormed, packedReading}
-use Rattle.unit.specs.Unit.{Cached, cached, Handed, handed, handOverRefusal}
+use Rattle.unit.specs.Unit.{Cached, cached, CachedBlock, cachedBlock, Handed, handed, handOverRefusal}
 
 -- ---- The words of a cache
 
@@ -65,6 +65,27 @@ cachedWordsIf (suc k) f c = cached (suc k) c
 -- file, cache: "1", then 101
 abbrev pub cachedReadWords : List ℕ → List ℕ → Cached (List ℕ)
 cachedReadWords f c = cachedWordsIf (fileRefusal (length f) else cacheRefusal (length c)) f c
+
+-- ---- The cached read and its pack, as they cross the C boundary
+
+-- 0 for a block that is lit, 100 for one that is off
+unfoldable pub blockNumber : List ℕ → ℕ
+blockNumber b = if allZero (words b) then 100 else 0
+
+-- n is the cache that the read left: 7 for a kept block, made by the caller, that is neither off nor well formed
+unfoldable pub packsCachedWords : List ℕ → List ℕ → List ℕ → CachedBlock (List ℕ)
+packsCachedWords n c b =
+    if formed (cacheBlock n) then cachedBlock (blockNumber (cacheBlock n)) n (cacheBlock n) else cachedBlock 7 c b
+
+-- refused, nothing changes
+unfoldable pub cachedReadBlockWordsIf : ℕ → List ℕ → List ℕ → List ℕ → CachedBlock (List ℕ)
+cachedReadBlockWordsIf zero f c b = packsCachedWords (refreshedWords f c) c b
+cachedReadBlockWordsIf (suc k) f c b = cachedBlock (suc k) c b
+
+-- file, cache, block: "1", "6", then 101, then 7
+abbrev pub cachedReadBlockWords : List ℕ → List ℕ → List ℕ → CachedBlock (List ℕ)
+cachedReadBlockWords f c b =
+    cachedReadBlockWordsIf (fileRefusal (length f) else blockRefusal (length b) else cacheRefusal (length c)) f c b
 
 -- ---- The hand-over
 

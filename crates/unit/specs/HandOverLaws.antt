@@ -1,26 +1,12 @@
--- What the refusals of a hand-over tell: none has the number 0, and the first of the four by length is 0 exactly where each slice has its length. Assumes nothing.
+-- What the refusals of a hand-over tell: the first of the four by length is 0 exactly where each slice has its length. Assumes nothing.
 use Prim.Native.Nat.{ℕ, _≤_}
-use native.Mathlib.Omega.{arith}
 use mathlib.Core.Path.{_≡_, refl}
 use mathlib.Core.Bool.{_&&_}
 use lib.Dec.{leb, eqb}
 use borrow.Author.Tests.{leb-true, eqb-true}
-use Rattle.refusals.specs.Refusals.{numberOf, fileRefusal, tablesRefusal, blockRefusal, _else_}
-use Rattle.refusals.specs.declared.Refusal.{Refusal}
-use Rattle.refusals.specs.declared.Refusal.the-variants.{ShortFile, WrongTables, HighRegister, LastGeneration, WrongSaved, WrongBlock, NotWellFormed, BadCapture, WrongFragment}
+use Rattle.refusals.specs.Refusals.{fileRefusal, tablesRefusal, blockRefusal, _else_}
 use Rattle.tables.specs.RefusalLaws.{else-left, else-right, else-test, passed, passed-test}
 use Rattle.unit.specs.Unit.{handOverRefusal}
-
-pub refusal-not-zero : (k : Refusal) → numberOf k ≡ 0 → ⊥
-refusal-not-zero ShortFile e = omega arith
-refusal-not-zero WrongTables e = omega arith
-refusal-not-zero HighRegister e = omega arith
-refusal-not-zero LastGeneration e = omega arith
-refusal-not-zero WrongSaved e = omega arith
-refusal-not-zero WrongBlock e = omega arith
-refusal-not-zero NotWellFormed e = omega arith
-refusal-not-zero BadCapture e = omega arith
-refusal-not-zero WrongFragment e = omega arith
 
 -- a file past its refusal
 pub long-file : (n : ℕ) → fileRefusal n ≡ 0 → 474 ≤ n

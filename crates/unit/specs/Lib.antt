@@ -5,3 +5,4 @@ pub mod Steps
 pub mod HandOverLaws
 pub mod DecodedLaws
 pub mod MeaningLaws
+pub mod LentLaws

@@ -8,7 +8,7 @@ use lib.ListN.{length, length-append, length-drop}
 use lib.Seq.{take-at, drop-at}
 use lib.Dec.{eqb}
 use borrow.Author.Tests.{ne-eqb}
-use Rattle.refusals.specs.Refusals.{fileRefusal, _else_}
+use Rattle.refusals.specs.Refusals.{fileRefusal, blockRefusal, _else_}
 use Rattle.tables.specs.RefusalLaws.{else-left}
 use Rattle.lighting.specs.Lighting.{blankLighting, bumpUnit, shadowUnit, inRange, on}
 use Rattle.lighting.specs.Forms.{every}
@@ -18,11 +18,11 @@ use Rattle.block.specs.Block.{words, allZero, zeros, wellFormed, blockReading, 
 use Rattle.block.specs.Claims.{WordsHeld}
 use Rattle.block.specs.ReadLaws.{read-packs, read-accepted}
 use Rattle.unit.specs.declared.Cache.{Cache}
-use Rattle.unit.specs.Unit.{freshCache, cached, current, readAnew, refreshed, cachedReadIf, handed, handOverRefusal, packable, taken, handOverRead, handOverIf, handOver}
+use Rattle.unit.specs.Unit.{freshCache, cached, current, readAnew, refreshed, cachedReadIf, readNumber, cachedBlock, packsCached, cachedReadBlockIf, handed, handOverRefusal, packable, taken, handOverRead, handOverIf, handOver}
 use Rattle.unit.specs.HandOverLaws.{long-file, hand-over-lengths}
 use Rattle.unit.specs.DecodedLaws.{decoded-packable, decoded-reads, packed-formed, packed-length}
-use Rattle.unit.specs.CacheWords.{blockPlace, cacheCount, cacheFlag, cacheKept, cacheBlock, emptyWords, cacheRefusal, formed, currentWords, anewWords, refreshedWords, cachedWordsIf, cachedReadWords, takenWords, handOverWordsRead, handOverWordsIf, handOverWords}
-use Rattle.unit.specs.Meaning.{readingOf, cacheOf, cachedAs, handedAs, Lendable, HandsOverAsMeant, ReadsAsMeant}
+use Rattle.unit.specs.CacheWords.{blockPlace, cacheCount, cacheFlag, cacheKept, cacheBlock, emptyWords, cacheRefusal, formed, currentWords, anewWords, refreshedWords, cachedWordsIf, cachedReadWords, blockNumber, packsCachedWords, cachedReadBlockWordsIf, takenWords, handOverWordsRead, handOverWordsIf, handOverWords}
+use Rattle.unit.specs.Meaning.{readingOf, cacheOf, cachedAs, cachedBlockAs, handedAs, Lendable, HandsOverAsMeant, ReadsBlockAsMeant, ReadsAsMeant}
 
 -- a block that, if it is off or well formed, is packed from its reading
 abbrev PacksBack : List ℕ → Type 0
@@ -39,7 +39,7 @@ lent-packs b n held h = (go (allZero (words b)) refl h, read-packs b n held h)
     go false e k = rw (e, read-accepted b n held k) refl
 
 -- and so is the block of a file's lighting
-decoded-formed : (f : List ℕ) → formed (packedReading (read f)) ≡ true
+pub decoded-formed : (f : List ℕ) → formed (packedReading (read f)) ≡ true
 unfolding formed
 decoded-formed f = packed-formed (read f) (decoded-packable f)
 
@@ -75,11 +75,11 @@ module _ (f : List ℕ) (long : 474 ≤ length f) where
   unfolding anewWords
   anew-kept = take-at (registersRead f) (packedReading (read f)) registersReadCount (kept-whole f long)
 
-  anew-block : cacheBlock (anewWords f) ≡ packedReading (read f)
+  pub anew-block : cacheBlock (anewWords f) ≡ packedReading (read f)
   unfolding anewWords
   anew-block = drop-at (registersRead f) (packedReading (read f)) registersReadCount (kept-whole f long)
 
-  anew-long : length (anewWords f) ≡ cacheCount
+  pub anew-long : length (anewWords f) ≡ cacheCount
   unfolding anewWords
   anew-long =
       ap (λ (n : ℕ). suc n) (length-append (registersRead f) (packedReading (read f)))
@@ -176,6 +176,37 @@ module _ (f t : List ℕ) (g : ℕ) (c b ct : List ℕ) (cg : ℕ) where
           let long : 474 ≤ length f = hand-over-lengths (length f) (length t) (length ct) (length b) (else-left refusal _ e) .0 in
           copied (refreshedWords f c) (refreshed-leaves f long c P p (q long)) (formed (cacheBlock (refreshedWords f c))) (eqb g cg)
       go (suc r) e = p
+
+-- a cached read and its pack
+module _ (n : List ℕ) (k : Kept n) (c b : List ℕ) where
+  off-as-read : (z : Bool) → allZero (words (cacheBlock n)) ≡ z → formed (cacheBlock n) ≡ true → blockNumber (cacheBlock n) ≡ readNumber (readingOf (cacheBlock n))
+  unfolding blockNumber readNumber readingOf blockReading
+  off-as-read true z e = rw (e, z) refl
+  off-as-read false z e = rw (e, z) refl
+
+  packs-meant : cachedBlockAs cacheOf (packsCachedWords n c b) ≡ packsCached (cacheOf n) (cacheOf c) b
+  unfolding packsCachedWords packsCached cacheOf
+  packs-meant = rw (packable-meant (cacheBlock n) (k .back)) (go (formed (cacheBlock n)) refl)
+    where
+      go : (x : Bool) → formed (cacheBlock n) ≡ x
+          → cachedBlockAs cacheOf (cond x (cachedBlock (blockNumber (cacheBlock n)) n (cacheBlock n)) (cachedBlock 7 c b))
+          ≡ cond x (cachedBlock (readNumber (readingOf (cacheBlock n))) (cacheOf n) (packedReading (readingOf (cacheBlock n)))) (cachedBlock 7 (cacheOf c) b)
+      go true e = rw (packed-meant (cacheBlock n) (k .back) e, off-as-read (allZero (words (cacheBlock n))) refl e) refl
+      go false e = refl
+
+pub reads-block-as-meant : ReadsBlockAsMeant
+unfolding cachedReadBlockWordsIf cachedReadBlockIf
+reads-block-as-meant f c b l = rw (not-refused c (l .long)) (go (fileRefusal (length f)) (blockRefusal (length b)) refl)
+  where
+    k : Kept c
+    k = lendable-kept c l
+
+    go : (q r : ℕ) → fileRefusal (length f) ≡ q → cachedBlockAs cacheOf (cachedReadBlockWordsIf (q else r else 0) f c b) ≡ cachedReadBlockIf (q else r) f (cacheOf c) b
+    go zero zero e =
+        let long : 474 ≤ length f = long-file (length f) e in
+        rw (← (refreshed-means f long c)) (packs-meant (refreshedWords f c) (refreshed-leaves f long c Kept k (anew-keeps f long)) c b)
+    go zero (suc r) e = refl
+    go (suc q) r e = refl
 
 pub hands-over-as-meant : HandsOverAsMeant
 hands-over-as-meant f t g c b ct cg l = hand-over-means f t g c b ct cg (lendable-kept c l)

@@ -1,5 +1,6 @@
--- A unit's cache and the two calls that go through it: the cached read, which is the Rust's `LastLighting::read`, and the hand-over to a copy.
--- Definitions only; the contracts of `fresh_cache`, `cached_read` and `hand_over` cite them.
+-- A unit's cache and the two calls that go through it: the cached read, which is the Rust's `LastLighting::read`, and the hand-over to a copy; and the reads as
+-- they cross the C boundary. Definitions only; the contracts of `fresh_cache`, `cached_read`, `hand_over` and `lent::read_block` cite them, those of `lent`'s
+-- other calls by way of Meaning.
 use Prim.Native.Nat.{ℕ, zero, suc}
 use mathlib.Core.List.{List}
 use mathlib.Core.Bool.{Bool, true, false, not, _&&_, _||_}
@@ -11,7 +12,7 @@ use Rattle.lighting.specs.Forms.{if_then_else_}
 use Rattle.lighting.specs.Lighting.{off}
 use Rattle.lighting.specs.declared.OptionalLighting.{OptionalLighting}
 use Rattle.decoding.specs.Read.{read, registersRead, registersReadCount}
-use Rattle.block.specs.Block.{accepted, packedReading}
+use Rattle.block.specs.Block.{accepted, packedReading, Packing, packing}
 use Rattle.unit.specs.declared.Cache.{Cache}
 use Rattle.unit.specs.declared.CachedRead.{CachedRead}
 use Rattle.unit.specs.declared.HandedOver.{HandedOver}
@@ -62,6 +63,48 @@ cachedRead f c = cachedReadIf (fileRefusal (length f)) f c
 abbrev pub cachedOf : CachedRead → Cached Cache
 cachedOf r = cached (outcomeNumber (r .outcome)) (r .cache)
 
+-- ---- Both reads across the C boundary, where a lighting is its block: the reading, and then its pack
+
+-- 0 where it is lit, 100 where it is off
+unfoldable pub readNumber : OptionalLighting → ℕ
+readNumber d = if d .on then 0 else 100
+
+-- all zero where it is off; a file's reading is never refused with 7 (DecodedLaws: decoded-packable)
+unfoldable pub readBlockIf : ℕ → List ℕ → List ℕ → Packing
+readBlockIf zero f b = packing (readNumber (read f)) (packedReading (read f))
+readBlockIf (suc k) f b = packing (suc k) b
+
+-- "1" of the read, then "6" of pack. File, block.
+abbrev pub readBlock : List ℕ → List ℕ → Packing
+readBlock f b = readBlockIf (fileRefusal (length f) else blockRefusal (length b)) f b
+
+-- not "7 a lighting, made by the caller": it is off, or `pack` accepts it
+unfoldable pub packable : OptionalLighting → Bool
+packable d = not (d .on) || accepted (d .lighting)
+
+-- What a cached read and its pack give: the number, the cache and the block afterwards.
+pub record CachedBlock (C : Type 0) : Type 0 where
+  pub number : ℕ
+  pub cache : C
+  pub block : List ℕ
+
+abbrev pub cachedBlock : {C : Type 0} → ℕ → C → List ℕ → CachedBlock C
+cachedBlock k c b = record { number = k; cache = c; block = b }
+
+-- n is the cache that the read left; refused, nothing changes: c is the cache before, b the block
+unfoldable pub packsCached : Cache → Cache → List ℕ → CachedBlock Cache
+packsCached n c b =
+    if packable (n .decoded) then cachedBlock (readNumber (n .decoded)) n (packedReading (n .decoded))
+    else cachedBlock 7 c b
+
+unfoldable pub cachedReadBlockIf : ℕ → List ℕ → Cache → List ℕ → CachedBlock Cache
+cachedReadBlockIf zero f c b = packsCached (refreshed f c) c b
+cachedReadBlockIf (suc k) f c b = cachedBlock (suc k) c b
+
+-- "1" of the cached read, "6" of pack, then its 7. File, cache, block.
+abbrev pub cachedReadBlock : List ℕ → Cache → List ℕ → CachedBlock Cache
+cachedReadBlock f c b = cachedReadBlockIf (fileRefusal (length f) else blockRefusal (length b)) f c b
+
 -- ---- The hand-over
 
 -- What a hand-over gives, whatever kind of thing a cache is: 0 or the refusal's number, the unit's cache, and the copy's block, tables and
@@ -81,10 +124,6 @@ abbrev pub handOverRefusal : ℕ → ℕ → ℕ → ℕ → ℕ
 handOverRefusal file tables copyTables block =
     fileRefusal file else tablesRefusal tables else tablesRefusal copyTables else blockRefusal block
 
--- not "7 as for pack, from a cache made by the caller": it is off, or `pack` accepts it
-unfoldable pub packable : OptionalLighting → Bool
-packable d = not (d .on) || accepted (d .lighting)
-
 -- "packs it (off: all zero), and takes tables and generation exactly when the generations differ": n is the cache that the read left, t and g are
 -- the unit's tables and generation, ct and cg the copy's
 unfoldable pub taken : Cache → List ℕ → ℕ → List ℕ → ℕ → Handed Cache
@@ -92,7 +131,7 @@ taken n t g ct cg =
     if eqb g cg then handed 0 n (packedReading (n .decoded)) ct cg
     else handed 0 n (packedReading (n .decoded)) t g
 
--- past the refusals by length; refused, nothing changes: c is the cache before, b the copy's block
+-- past the refusals by length, "7 as for pack, from a cache made by the caller"; refused, nothing changes: c is the cache before, b the copy's block
 unfoldable pub handOverRead : Cache → List ℕ → ℕ → Cache → List ℕ → List ℕ → ℕ → Handed Cache
 handOverRead n t g c b ct cg = if packable (n .decoded) then taken n t g ct cg else handed 7 c b ct cg
 

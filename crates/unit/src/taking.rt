@@ -9,7 +9,7 @@ ghost use Rattle.refusals.specs.Refusals.{outcomeNumber};
 ghost use Rattle.block.specs.Block.{packing};
 ghost use Rattle.unit.specs.Steps.{packsReading, took, takes};
 
-fn clear(words: &mut [u32])
+pub(crate) fn clear(words: &mut [u32])
     ensures { λ _. ⌜ now (words .exit) ≡ replicate (length (now (words .entry))) 0 ⌝ }
 {
     let mut i = 0;

@@ -40,7 +40,7 @@ returns c =
     let s = c .before .before .before .before .before .before .before .before .before in
     let r = c .before .before .run-fresh in
     let e : captureWordsRefusal (s .args .words .now) ≡ 0 = sym (c .before .before .before .before .before .before .check-words .ensures) ∙ ap outcomeNumber (c .before .before .before .before .enum-told .given .1) in
-    (sym e, rw e (r .ensures))
+    (sym e, λ n. rw e (r .ensures .0))
 
 same-length-2 : tie.Need-same-length-2
 same-length-2 c = search needs
@@ -52,10 +52,7 @@ returns-2 c =
     let k = c .before .before .before .before .before .before .outcome .given .1 in
     let e = c .before .before .before .before .before .before .before .before .check-words .ensures in (
       refused-number (s .args .words .now) _ _ k e,
-      (
-        p .ensures .0 ∙ ap (puts (out (s .args .out .now) 0)) (refused-prints (s .args .words .now) _ _ k e _ (c .before .before .before .number .ensures)),
-        omega (arith, p .ensures .1, p .kept .0, s .pre),
-      ),
+      λ n. p .ensures .0 ∙ ap (puts (out (s .args .out .now) 0)) (refused-prints (s .args .words .now) _ _ k e _ (c .before .before .before .number .ensures)),
     )
 
 pub run-words-spec : {M : Type 1} → statement M

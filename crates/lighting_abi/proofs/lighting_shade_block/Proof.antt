@@ -1,17 +1,18 @@
 -- `lighting_abi::lighting_shade_block` meets its contract: each wrong length is refused as block shading of the words refuses it, and past the lengths the form of
 -- the block's words leads to its answer. Assumes nothing.
-use mathlib.Core.List.{[]}
+use Prim.Native.Nat.{_/_}
 use native.Mathlib.Omega.{arith}
+use mathlib.Core.List.{[]}
 use mathlib.Core.Path.{_≡_, sym, ap, _∙_}
 use mathlib.Core.Bool.{true, false}
+use lib.ListN.{length}
 use Rattle.sources.specs.Steps.{given}
-use Rattle.lighting_abi.specs.Boundary.{bytesOf}
 use Rattle.block.specs.Steps.{blockForm}
 use Rattle.block_reading.specs.Steps.{isLit, isPlain}
 use Rattle.block_reading.specs.FormLaws.{is-lit, is-plain}
 use Rattle.shading.specs.Shade.{shaded}
-use Rattle.block_shading.specs.BlockShading.{eightOf}
 use Rattle.block_shading.specs.Steps.{isOff}
+use Rattle.lighting_abi.specs.Boundary.{bytesOf}
 use Rattle.lighting_abi.specs.BytesLaws.{given-length, bad-block, bad-tables, bad-fragment, short-answer, lit-bytes, off-bytes, bad-bytes}
 use borrow.Author.Needs.{needs}
 use Rattle.lighting_abi.proofs.lighting_shade_block.Statement.{statement}
@@ -38,25 +39,29 @@ form-requires c κs = search needs
 is-lit-requires : tie.Need-is-lit-requires
 is-lit-requires c κs = search needs
 
-slice-aggregate-shade-lit : tie.Need-slice-aggregate-shade-lit
-slice-aggregate-shade-lit c = search needs
+slice-aggregate-shade-each : tie.Need-slice-aggregate-shade-each
+slice-aggregate-shade-each c = search needs
 
-slice-aggregate-shade-lit-2 : tie.Need-slice-aggregate-shade-lit-2
-slice-aggregate-shade-lit-2 c = search needs
+slice-aggregate-shade-each-2 : tie.Need-slice-aggregate-shade-each-2
+slice-aggregate-shade-each-2 c = search needs
 
-slice-aggregate-shade-lit-3 : tie.Need-slice-aggregate-shade-lit-3
-slice-aggregate-shade-lit-3 c = search needs
+slice-aggregate-shade-each-3 : tie.Need-slice-aggregate-shade-each-3
+slice-aggregate-shade-each-3 c = search needs
 
 is-plain-requires : tie.Need-is-plain-requires
 is-plain-requires c κs = search needs
 
-shade-lit-requires : tie.Need-shade-lit-requires
-shade-lit-requires c κs =
-    let s = c .before .before .before .before .before .before .before .before .before .before .before .before .before .before .before .before in
+slice-aggregate-shade-each-4 : tie.Need-slice-aggregate-shade-each-4
+slice-aggregate-shade-each-4 c = search needs
+
+shade-each-requires : tie.Need-shade-each-requires
+shade-each-requires c κs =
+    let s = c .before .before .before .before .before .before .before .before .before .before .before .before .before .before .before .before .before in
     let b = given [] (s .args .block .now) in
-    let f = c .before .before .before .before .before .before .form .ensures in
-    let l : isLit (blockForm b) ≡ true = sym (ap isLit f) ∙ sym (c .before .before .before .before .before .is-lit .ensures) ∙ c .before .before .before .before .if5 .taken in
-    ((given-length (s .args .block .now) 328 (omega arith) (c .before .before .before .before .before .before .before .before .before .before .before .if1 .left), given-length (s .args .tables .now) 12288 (omega arith) (c .before .before .before .before .before .before .before .before .before .before .if2 .left), given-length (s .args .fragment .now) 23 (omega arith) (c .before .before .before .before .before .before .before .before .before .if3 .left)), (is-lit b l .formed, λ p. is-plain b (sym (ap isPlain f) ∙ sym (c .is-plain .ensures) ∙ p)))
+    let f = c .before .before .before .before .before .before .before .form .ensures in
+    let l : isLit (blockForm b) ≡ true = sym (ap isLit f) ∙ sym (c .before .before .before .before .before .before .is-lit .ensures) ∙ c .before .before .before .before .before .if5 .taken in
+    let q = given-length (s .args .fragment .now) 23 (omega arith) (c .before .before .before .before .before .before .before .before .before .before .if3 .left) in
+    ((given-length (s .args .block .now) 328 (omega arith) (c .before .before .before .before .before .before .before .before .before .before .before .before .if1 .left), given-length (s .args .tables .now) 12288 (omega arith) (c .before .before .before .before .before .before .before .before .before .before .before .if2 .left), omega (arith, q)), (is-lit b l .formed, λ p. is-plain b (sym (ap isPlain f) ∙ sym (c .before .is-plain .ensures) ∙ p)))
 
 put-requires : tie.Need-put-requires
 put-requires c κs = search needs
@@ -65,13 +70,12 @@ same-length : tie.Need-same-length
 same-length c = search needs
 
 returns-5 : tie.Need-returns-5
-unfolding eightOf
 returns-5 c =
-    let s = c .before .before .before .before .before .before .before .before .before .before .before .before .before .before .before .before .before .before .before .before .before in
+    let s = c .before .before .before .before .before .before .before .before .before .before .before .before .before .before .before .before .before .before .before .before .before .before .before in
     let b = given [] (s .args .block .now) in
-    let l : isLit (blockForm b) ≡ true = sym (ap isLit (c .before .before .before .before .before .before .before .before .before .before .before .form .ensures)) ∙ sym (c .before .before .before .before .before .before .before .before .before .before .is-lit .ensures) ∙ c .before .before .before .before .before .before .before .before .before .if5 .taken in
-    ap (shaded 0) (c .before .before .put .ensures ∙ ap bytesOf (c .before .before .before .before .shade-lit .ensures))
-    ∙ lit-bytes (s .args .block .now) (s .args .tables .now) (s .args .fragment .now) (s .args .answer .now) (c .before .before .before .before .before .before .before .before .before .before .before .before .before .before .before .before .if1 .left) (c .before .before .before .before .before .before .before .before .before .before .before .before .before .before .before .if2 .left) (c .before .before .before .before .before .before .before .before .before .before .before .before .before .before .if3 .left) (c .before .before .before .before .before .before .before .before .before .before .before .before .before .if4 .left) l
+    let l : isLit (blockForm b) ≡ true = sym (ap isLit (c .before .before .before .before .before .before .before .before .before .before .before .before .before .form .ensures)) ∙ sym (c .before .before .before .before .before .before .before .before .before .before .before .before .is-lit .ensures) ∙ c .before .before .before .before .before .before .before .before .before .before .before .if5 .taken in
+    ap (shaded 0) (c .before .before .put .ensures ∙ ap bytesOf (c .before .before .before .before .before .shade-each .ensures))
+    ∙ lit-bytes (s .args .block .now) (s .args .tables .now) (s .args .fragment .now) (s .args .answer .now) (c .before .before .before .before .before .before .before .before .before .before .before .before .before .before .before .before .before .before .if1 .left) (c .before .before .before .before .before .before .before .before .before .before .before .before .before .before .before .before .before .if2 .left) (c .before .before .before .before .before .before .before .before .before .before .before .before .before .before .before .before .if3 .left) (c .before .before .before .before .before .before .before .before .before .before .before .before .before .before .before .if4 .left) l
 
 is-off-requires : tie.Need-is-off-requires
 is-off-requires c κs = search needs
@@ -83,7 +87,7 @@ returns-6 c =
     let f = c .before .before .before .before .form .ensures in
     let l : isLit (blockForm b) ≡ false = sym (ap isLit f) ∙ sym (c .before .before .before .is-lit .ensures) ∙ c .before .before .if5 .left in
     let o : isOff (blockForm b) ≡ true = sym (ap isOff f) ∙ sym (c .before .is-off .ensures) ∙ c .if6 .taken in
-    off-bytes (s .args .block .now) (s .args .tables .now) (s .args .fragment .now) (s .args .answer .now) (c .before .before .before .before .before .before .before .before .before .if1 .left) (c .before .before .before .before .before .before .before .before .if2 .left) (c .before .before .before .before .before .before .before .if3 .left) (c .before .before .before .before .before .before .if4 .left) o
+    off-bytes (s .args .block .now) (s .args .tables .now) (s .args .fragment .now) (s .args .answer .now) (c .before .before .before .before .before .before .before .before .before .if1 .left) (c .before .before .before .before .before .before .before .before .if2 .left) (c .before .before .before .before .before .before .before .if3 .left) (c .before .before .before .before .before .before .if4 .left) l o
 
 returns-7 : tie.Need-returns-7
 returns-7 c =
@@ -105,11 +109,12 @@ lighting-shade-block-spec =
     slice-aggregate-form
     form-requires
     is-lit-requires
-    slice-aggregate-shade-lit
-    slice-aggregate-shade-lit-2
-    slice-aggregate-shade-lit-3
+    slice-aggregate-shade-each
+    slice-aggregate-shade-each-2
+    slice-aggregate-shade-each-3
     is-plain-requires
-    shade-lit-requires
+    slice-aggregate-shade-each-4
+    shade-each-requires
     put-requires
     same-length
     returns-5

@@ -14,7 +14,7 @@ run-capture-requires : tie.Need-run-capture-requires
 run-capture-requires c κs = search needs
 
 size-of-requires : tie.Need-size-of-requires
-size-of-requires c κs = λ e. output-suffices _ _ _ (c .before .run-capture .result) (search needs) (c .before .run-capture .ensures .0) e
+size-of-requires c κs = λ e. output-suffices _ _ _ 0 (c .before .run-capture .result) (search needs) (c .before .run-capture .ensures .0 0) e
 
 array-share-prefix-output : tie.Need-array-share-prefix-output
 array-share-prefix-output c = search needs

@@ -6,6 +6,7 @@ use mathlib.Core.List.{List, []}
 use lib.ListN.{length}
 use Rattle.sources.specs.SourcesLaws.{given-words}
 use Rattle.block.specs.AcceptedLaws.{accepted-range}
+use Rattle.shading.proofs.answer_words.Eight.{all}
 use Rattle.shading.proofs.Answers.{wrong-tables, wrong-answer, refused, done}
 use borrow.Author.Needs.{needs}
 use Rattle.shading.proofs.shade.Statement.{statement}
@@ -39,7 +40,7 @@ returns-3 c =
     let s = c .before .before .before .before .before .before .before .before .before .before .before .before in
     done _ _ _ _ _ _ _ (c .before .before .before .before .before .before .before .before .before .if1 .left) (c .before .before .before .before .before .before .before .before .if2 .left)
     (sym (c .before .before .before .before .before .before .before .acceptable .ensures) ∙ c .before .before .before .before .before .before .if3 .taken)
-    (c .before .before .put .ensures ∙ c .before .before .before .shade-in-range .ensures ∙ ap (λ (t : List ℕ). shadeOf (s .args .lighting) t (s .args .quaternion) (s .args .view) (s .args .texels)) (given-words (s .args .tables .now) [] refl))
+    (c .before .before .put .ensures ∙ all (s .args .answer .now) _ (c .before .before .before .before .before .before .before .before .if2 .left) ∙ c .before .before .before .shade-in-range .ensures ∙ ap (λ (t : List ℕ). shadeOf (s .args .lighting) t (s .args .quaternion) (s .args .view) (s .args .texels)) (given-words (s .args .tables .now) [] refl))
 
 returns-4 : tie.Need-returns-4
 returns-4 c = refused _ _ _ _ _ _ (c .before .before .before .if1 .left) (c .before .before .if2 .left) (sym (c .before .acceptable .ensures) ∙ c .if3 .left)

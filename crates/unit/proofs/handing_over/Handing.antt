@@ -17,7 +17,7 @@ use Rattle.block.specs.Block.{packedReading}
 use Rattle.unit.specs.declared.Cache.{Cache}
 use Rattle.unit.specs.Unit.{current, readAnew, refreshed, Handed, handed, handOverRefusal, packable, taken, handOverRead, handOverIf, handOver}
 use Rattle.unit.specs.DecodedLaws.{decoded-packable}
-use Rattle.unit.specs.HandOverLaws.{refusal-not-zero}
+use Rattle.tables.specs.RefusalLaws.{refusal-not-zero}
 use Rattle.unit.specs.Steps.{Took, took, takes}
 
 module _ (n : Cache) (t : List ℕ) (g : ℕ) (c : Cache) (b ct : List ℕ) (cg : ℕ) (x y : List ℕ) where

@@ -17,7 +17,7 @@ use Rattle.block.specs.Block.{packed, Packing, packing, accepted, lightingRefus
 use Rattle.tables.specs.Tables.{Saved, saved, saveRefusal, save}
 use Rattle.tables.specs.RestoreLaws.{save-data}
 use Rattle.unit.specs.Unit.{packable}
-use Rattle.unit.specs.HandOverLaws.{refusal-not-zero}
+use Rattle.tables.specs.RefusalLaws.{refusal-not-zero}
 use Rattle.unit.specs.Steps.{packsReading, takes, took}
 
 -- `pack` on a lighting that is on

@@ -28,7 +28,6 @@ Inv-loop words count file₀ tables₀ block₀ copied₀ out₀ left₀ next₀
     × (length tables ≡ length tables₀)
     × (length block ≡ length block₀)
     × (length copied ≡ length copied₀)
-    × (length copied ≡ 12288)
     × (length out ≡ length out₀)
     × (next + 32 * ((length words - at) / 23) ≤ length out₀)
     × (gapless (triples words i (count - i)) at (length words) ≡ true)
@@ -47,7 +46,7 @@ add-at c = search needs
 loop-holds : tie.Need-loop-holds Inv-loop μ-loop
 loop-holds c =
     let s = c .before .before .before .before .before .before in
-    (search needs, search needs, search needs, refl, refl, refl, refl, s .pre .1 .0, refl, omega arith, rw triples-all (s .pre .0 .1), rw triples-all, rw triples-all)
+    (search needs, search needs, search needs, refl, refl, refl, refl, refl, omega arith, rw triples-all (s .pre .0 .1), rw triples-all, rw triples-all)
 
 mul-kind : tie.Need-mul-kind Inv-loop μ-loop
 mul-kind c = search needs
@@ -91,14 +90,14 @@ part-run-body-start c = search needs
 part-run-body-end : tie.Need-part-run-body-end Inv-loop μ-loop
 part-run-body-end c =
     let l = c .before .before .before .before .loop in
-    omega (arith, body-end _ (l .i) _ (l .at) _ _ (omega arith) (l .inv .10) (c .wide .ensures .0))
+    omega (arith, body-end _ (l .i) _ (l .at) _ _ (omega arith) (l .inv .9) (c .wide .ensures .0))
 
 run-body-requires : tie.Need-run-body-requires Inv-loop μ-loop
 run-body-requires c κs =
     let l = c .before .before .before .before .before .before .before .before .before .before .loop in
     let a = c .before .before .before .before .before .before .before .before .before .before .before .before .before .before .before .before .before .args in
-    let h = body-end (a .words .now) (l .i) (a .count) (l .at) (length (a .words .now)) _ (omega arith) (l .inv .10) (c .before .before .before .before .before .before .wide .ensures .0) in
-    (l .inv .7, omega (arith, part-length (a .words .now) (l .at) _ h))
+    let h = body-end (a .words .now) (l .i) (a .count) (l .at) (length (a .words .now)) _ (omega arith) (l .inv .9) (c .before .before .before .before .before .before .wide .ensures .0) in
+    omega (arith, part-length (a .words .now) (l .at) _ h)
 
 add-i : tie.Need-add-i Inv-loop μ-loop
 add-i c = omega (arith, c .before .before .before .before .before .before .before .before .before .before .before .before .before .before .before .before .before .before .before .before .before .before .loop .inv, c .before .before .before .before .before .before .before .before .before .before .before .before .before .before .before .before .before .before .before .before .before .loop-test .taken, c .before .before .before .before .before .before .before .before .before .before .before .before .before .before .before .before .before .before .before .before .before .before .before .before .before .before .before .before .before .good)
@@ -114,7 +113,7 @@ loop-again c =
     let q = c .before .before .before .before .before .before .before .before .before .before .before .before .before .before .before .before .before .before .wide .ensures .0 in
     let r = c .before .before .before .before .before .before .before .before .before .before .before .run-body in
     let w = a .words .now in
-    let h = body-end w (l .i) (a .count) (l .at) (length w) _ t (l .inv .10) q in
+    let h = body-end w (l .i) (a .count) (l .at) (length w) _ t (l .inv .9) q in
     let s = lentState (l .file) (l .tables) (l .block) (l .copied) (l .left) in (
       omega (arith, t),
       l .inv .1,
@@ -123,12 +122,11 @@ loop-again c =
       omega (arith, l .inv .4, r .kept .1 .1 .1 .0),
       omega (arith, l .inv .5, r .kept .1 .1 .1 .1 .0),
       omega (arith, l .inv .6, r .kept .1 .1 .1 .1 .1 .0),
-      omega (arith, l .inv .7, r .kept .1 .1 .1 .1 .1 .0),
-      omega (arith, l .inv .8, r .kept .1 .1 .1 .1 .1 .1 .1 .0),
-      omega (arith, l .inv .9, r .ensures .1 .1, part-length w (l .at) _ h),
-      body-rest _ (l .i) _ (l .at) _ _ t (l .inv .10) q,
-      calls-turn w (l .i) (a .count) (l .at) (length w) _ t (l .inv .10) q _ (part-is w (l .at) _) s _ (r .ensures .0) _ (l .inv .11),
-      prints-turn w (l .i) (a .count) (l .at) (length w) _ t (l .inv .10) q _ (part-is w (l .at) _) s _ (r .ensures .0) (l .out) _ (l .next) _ _ (r .ensures .1 .0) (l .inv .12),
+      omega (arith, l .inv .7, r .kept .1 .1 .1 .1 .1 .1 .1 .0),
+      omega (arith, l .inv .8, r .ensures .1 .1, part-length w (l .at) _ h),
+      body-rest _ (l .i) _ (l .at) _ _ t (l .inv .9) q,
+      calls-turn w (l .i) (a .count) (l .at) (length w) _ t (l .inv .9) q _ (part-is w (l .at) _) s _ (r .ensures .0) _ (l .inv .10),
+      prints-turn w (l .i) (a .count) (l .at) (length w) _ t (l .inv .9) q _ (part-is w (l .at) _) s _ (r .ensures .0) (l .out) _ (l .next) _ _ (r .ensures .1 .0) (l .inv .11),
     )
 
 same-length : tie.Need-same-length Inv-loop μ-loop
@@ -151,8 +149,8 @@ unfolding puts copyPrints callsOf run
 returns c =
     let a = c .before .before .before .before .before .before .before .before .args in
     let l = c .before .loop in (
-      rw (triples-none (a .words .now) (l .i) (a .count) (omega arith)) at (l .inv .11),
-      (rw (triples-none (a .words .now) (l .i) (a .count) (omega arith)) at (l .inv .12), omega arith),
+      rw (triples-none (a .words .now) (l .i) (a .count) (omega arith)) at (l .inv .10),
+      (rw (triples-none (a .words .now) (l .i) (a .count) (omega arith)) at (l .inv .11), omega arith),
     )
 
 pub run-bodies-spec : {M : Type 1} → statement M

@@ -36,7 +36,7 @@ run-bodies-requires c κs =
     let s = c .before .before .before .before .before .before .before .before .before .before in
     let f = not-refused-shaped _ (s .pre .1) in
     let e = c .before .before .before .before .before .before .wide .ensures .0 in
-    ((rw e (shaped-end _ f), rw e (shaped-gapless _ f)), (search needs, omega (arith, s .pre)))
+    ((rw e (shaped-end _ f), rw e (shaped-gapless _ f)), omega (arith, s .pre))
 
 same-length : tie.Need-same-length
 same-length c = search needs

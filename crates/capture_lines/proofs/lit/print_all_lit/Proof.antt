@@ -7,6 +7,7 @@ use lib.ListN.{length, drop, length-take, length-drop}
 use Rattle.printing.specs.Steps.{puts}
 use Rattle.printing.specs.Steps as Writing
 use Rattle.sources.specs.PieceLaws.{part-is}
+use Rattle.block.specs.Block.{words, blockLighting}
 use Rattle.capture_lines.specs.Lines.{fragmentLines}
 use Rattle.capture_lines.specs.Steps.{litShades}
 use Rattle.capture_lines.specs.LinesLaws.{lines-all, lines-none, lines-turn}
@@ -15,13 +16,13 @@ use Rattle.capture_lines.proofs.lit.print_all_lit.Statement.{statement}
 use Rattle.capture_lines.proofs.lit.print_all_lit.Tie as tie
 
 abbrev Inv-loop : tie.InvT-loop
-Inv-loop lighting tables fragments out₀ at count next₀ i₀ out next i = (i ≤ count) × (count ≡ length fragments / 23) × (length out ≡ length out₀) × (next + 32 * (count - i) ≤ at + 32 * count) × (at + 32 * count ≤ length out₀) × (puts (Writing.out out next) (fragmentLines (litShades lighting tables) (count - i) (drop (23 * i) fragments)) ≡ puts (Writing.out out₀ at) (fragmentLines (litShades lighting tables) count fragments))
+Inv-loop block plain tables fragments out₀ at count next₀ i₀ out next i = (i ≤ count) × (count ≡ length fragments / 23) × (length out ≡ length out₀) × (next + 32 * (count - i) ≤ at + 32 * count) × (at + 32 * count ≤ length out₀) × (puts (Writing.out out next) (fragmentLines (litShades (blockLighting (words block)) tables) (count - i) (drop (23 * i) fragments)) ≡ puts (Writing.out out₀ at) (fragmentLines (litShades (blockLighting (words block)) tables) count fragments))
 
 abbrev μ-loop : tie.MeasureT-loop
-μ-loop lighting tables fragments out₀ at count next₀ i₀ out next i = count - i
+μ-loop block plain tables fragments out₀ at count next₀ i₀ out next i = count - i
 
 loop-holds : tie.Need-loop-holds Inv-loop μ-loop
-loop-holds c = (search needs, refl, refl, search needs, c .before .before .before .pre .1 .1, rw lines-all)
+loop-holds c = (search needs, refl, refl, search needs, c .before .before .before .before .pre .1 .1, rw lines-all)
 
 mul-from : tie.Need-mul-from Inv-loop μ-loop
 mul-from c = search needs
@@ -43,7 +44,7 @@ part-print-lit-end c = search needs
 
 print-lit-requires : tie.Need-print-lit-requires Inv-loop μ-loop
 print-lit-requires c κs =
-    let s = c .before .before .before .before .before .before .before in
+    let s = c .before .before .before .before .before .before .before .before in
     let l = c .before .before .before .loop in
     (s .pre .0, (s .pre .1 .0, simp (length-take, length-drop) (omega arith), omega arith))
 
@@ -55,15 +56,15 @@ loop-less c = search needs
 
 loop-again : tie.Need-loop-again Inv-loop μ-loop
 loop-again c =
-    let s = c .before .before .before .before .before .before .before .before .before .before in
+    let s = c .before .before .before .before .before .before .before .before .before .before .before in
     let l = c .before .before .before .before .before .before .loop in
     let r = c .before .before .print-lit in (
       search needs,
       refl,
-      r .kept .1 .1 .1 .0 ∙ l .inv .2,
+      r .kept .1 .1 .1 .1 .0 ∙ l .inv .2,
       omega (arith, r .ensures .1),
       l .inv .4,
-      lines-turn (litShades (s .args .lighting) (s .args .tables .now)) (s .args .fragments .now) (l .out) _ (l .i) _ (l .next) _ _ _ (omega arith) (part-is _ (23 * l .i) 23) (r .ensures .0) (l .inv .5),
+      lines-turn (litShades (blockLighting (words (s .args .block .now))) (s .args .tables .now)) (s .args .fragments .now) (l .out) _ (l .i) _ (l .next) _ _ _ (omega arith) (part-is _ (23 * l .i) 23) (r .ensures .0) (l .inv .5),
     )
 
 same-length : tie.Need-same-length Inv-loop μ-loop
@@ -72,9 +73,9 @@ same-length c = search needs
 returns : tie.Need-returns Inv-loop μ-loop
 unfolding puts
 returns c =
-    let s = c .before .before .before .before .before in
+    let s = c .before .before .before .before .before .before in
     let l = c .before .loop in (
-      rw (lines-none (litShades (s .args .lighting) (s .args .tables .now)) (s .args .fragments .now) (l .i) (length (s .args .fragments .now) / 23) (omega arith)) at (l .inv .5),
+      rw (lines-none (litShades (blockLighting (words (s .args .block .now))) (s .args .tables .now)) (s .args .fragments .now) (l .i) (length (s .args .fragments .now) / 23) (omega arith)) at (l .inv .5),
       omega arith,
     )
 

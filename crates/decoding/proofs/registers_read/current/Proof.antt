@@ -35,7 +35,7 @@ add-result-4 c = search needs
 
 returns : tie.Need-returns
 returns c =
-    let start = c .before .before .before .before .before .before in
+    let start = c .before .before .before .before .before .before .before in
     rw (c .before .before .before .before .differing .ensures .0, c .before .before .before .differing2 .ensures .0, c .before .before .differing3 .ensures .0, c .before .differing4 .ensures .0, c .differing5 .ensures .0)
     (ap (λ (b : Bool). start .args .filled && b) (found-same (start .args .file .now) (start .pre .0) (start .args .kept .now) (start .pre .1)))
 

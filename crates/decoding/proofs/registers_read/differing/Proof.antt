@@ -34,8 +34,8 @@ add-found-2 c = search needs
 mul-found-2 : tie.Need-mul-found-2 Inv-loop μ-loop
 mul-found-2 c = search needs
 
-element-copy-out-found : tie.Need-element-copy-out-found Inv-loop μ-loop
-element-copy-out-found c = search needs
+shared-slice-read-found-2 : tie.Need-shared-slice-read-found-2 Inv-loop μ-loop
+shared-slice-read-found-2 c = search needs
 
 cast-found : tie.Need-cast-found Inv-loop μ-loop
 cast-found c = search needs
@@ -78,7 +78,7 @@ differing-spec =
     shared-slice-read-found
     add-found-2
     mul-found-2
-    element-copy-out-found
+    shared-slice-read-found-2
     cast-found
     add-found-3
     add-j

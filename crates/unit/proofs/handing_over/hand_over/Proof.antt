@@ -26,23 +26,23 @@ enum-told-2 c = search needs
 
 current-requires : tie.Need-current-requires
 current-requires c κs =
-    let lengths = hand-over-lengths _ _ _ _ (past-zero (c .before .before .enum-told2 .given .1) (c .before .before .before .before .length-refusal .ensures)) in
+    let lengths = hand-over-lengths _ _ _ _ (past-zero (c .before .before .before .enum-told2 .given .1) (c .before .before .before .before .before .length-refusal .ensures)) in
     (lengths .0, search needs)
 
 read-anew-requires : tie.Need-read-anew-requires
 read-anew-requires c κs =
-    hand-over-lengths _ _ _ _ (past-zero (c .before .before .before .before .enum-told2 .given .1) (c .before .before .before .before .before .before .length-refusal .ensures)) .0
+    hand-over-lengths _ _ _ _ (past-zero (c .before .before .before .before .before .enum-told2 .given .1) (c .before .before .before .before .before .before .before .length-refusal .ensures)) .0
 
 take-requires : tie.Need-take-requires
 take-requires c κs =
-    let lengths = hand-over-lengths _ _ _ _ (past-zero (c .before .before .before .before .before .before .before .enum-told2 .given .1) (c .before .before .before .before .before .before .before .before .before .length-refusal .ensures)) in
+    let lengths = hand-over-lengths _ _ _ _ (past-zero (c .before .before .before .before .before .before .before .before .enum-told2 .given .1) (c .before .before .before .before .before .before .before .before .before .before .length-refusal .ensures)) in
     (lengths .1, lengths .3, lengths .2)
 
 -- the cache where the branches meet
-read : (c : tie.Joined1) → Read (c .before .before .before .before .before .before .before .before .before .before .before .args .file .now) (c .before .before .before .before .before .before .before .before .before .before .before .args .t4) (c .if1 .cache)
+read : (c : tie.Joined1) → Read (c .before .before .before .before .before .before .before .before .before .before .before .before .args .file .now) (c .before .before .before .before .before .before .before .before .before .before .before .before .args .t4) (c .if1 .cache)
 unfolding current
 read c =
-    let a = c .before .before .before .before .before .before .before .before .before .before .before .args in
+    let a = c .before .before .before .before .before .before .before .before .before .before .before .before .args in
     ⊎-elim
     (λ w. anew-read (a .file .now) (a .t4) (c .if1 .cache) (sym (c .before .current .ensures) ∙ not-true _ (w .0 .taken)) (w .2 ∙ w .1 .ensures))
     (λ w. kept-read (a .file .now) (a .t4) (c .if1 .cache) (sym (c .before .current .ensures) ∙ not-false _ (w .0 .left)) (w .1))
@@ -60,9 +60,9 @@ same-length-2 c = search needs
 returns-2 : tie.Need-returns-2
 returns-2 c =
     let join = c .before .before .before .before .before .before .before .before .before .before in
-    let a = join .before .before .before .before .before .before .before .before .before .before .before .args in
+    let a = join .before .before .before .before .before .before .before .before .before .before .before .before .args in
     let n = join .if1 .cache in
-    let zero = past-zero (c .before .before .before .before .before .before .before .before .before .before .before .before .before .before .enum-told2 .given .1) (c .before .before .before .before .before .before .before .before .before .before .before .before .before .before .before .before .length-refusal .ensures) in
+    let zero = past-zero (c .before .before .before .before .before .before .before .before .before .before .before .before .before .before .before .enum-told2 .given .1) (c .before .before .before .before .before .before .before .before .before .before .before .before .before .before .before .before .before .length-refusal .ensures) in
     by-read (a .file .now) (a .tables .now) (a .generation) (a .t4) (a .block .now) (a .copied .now) (a .age) n zero (read join .0)
     (refused-hands n (a .tables .now) (a .generation) (a .t4) (a .block .now) (a .copied .now) (a .age) _ _ (c .enum-told3 .given .1) (read join .1) (c .before .before .before .before .before .before .take .ensures))
 
@@ -78,9 +78,9 @@ same-length-4 c = search needs
 returns-3 : tie.Need-returns-3
 returns-3 c =
     let join = c .before .before .before .before .before .before .before .before .before .before in
-    let a = join .before .before .before .before .before .before .before .before .before .before .before .args in
+    let a = join .before .before .before .before .before .before .before .before .before .before .before .before .args in
     let n = join .if1 .cache in
-    let zero = past-zero (c .before .before .before .before .before .before .before .before .before .before .before .before .before .before .enum-told2 .given .1) (c .before .before .before .before .before .before .before .before .before .before .before .before .before .before .before .before .length-refusal .ensures) in
+    let zero = past-zero (c .before .before .before .before .before .before .before .before .before .before .before .before .before .before .before .enum-told2 .given .1) (c .before .before .before .before .before .before .before .before .before .before .before .before .before .before .before .before .before .length-refusal .ensures) in
     by-read (a .file .now) (a .tables .now) (a .generation) (a .t4) (a .block .now) (a .copied .now) (a .age) n zero (read join .0)
     (done-hands n (a .tables .now) (a .generation) (a .t4) (a .block .now) (a .copied .now) (a .age) _ _ (c .enum-told4 .given .1) (c .before .before .before .before .before .before .take .ensures))
 

@@ -17,7 +17,7 @@ current-requires c κs = search needs
 returns-2 : tie.Need-returns-2
 unfolding cachedReadIf fileRefusal refreshed current
 returns-2 c =
-    simp (le-leb 474 _ (c .before .before .before .before .if1 .left), sym (c .before .current .ensures) ∙ c .if2 .taken)
+    simp (le-leb 474 _ (c .before .before .before .before .before .if1 .left), sym (c .before .current .ensures) ∙ c .if2 .taken)
 
 read-anew-requires : tie.Need-read-anew-requires
 read-anew-requires c κs = search needs
@@ -25,7 +25,7 @@ read-anew-requires c κs = search needs
 returns-3 : tie.Need-returns-3
 unfolding cachedReadIf fileRefusal refreshed current
 returns-3 c =
-    simp (le-leb 474 _ (c .before .before .before .before .before .if1 .left), sym (c .before .before .current .ensures) ∙ c .before .if2 .left, c .read-anew .ensures)
+    simp (le-leb 474 _ (c .before .before .before .before .before .before .if1 .left), sym (c .before .before .current .ensures) ∙ c .before .if2 .left, c .read-anew .ensures)
 
 pub cached-read-spec : {M : Type 1} → statement M
 cached-read-spec = tie.close (tie.spec returns current-requires returns-2 read-anew-requires returns-3)

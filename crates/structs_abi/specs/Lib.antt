@@ -1,0 +1,3 @@
+pub mod Composed
+pub mod ComposedLaws
+pub mod HandOvers
