@@ -43,6 +43,10 @@ pub mod access {
         assert!(tables.restore(&entries));
         tables
     }
+    /// the 139 registers that a cached read keeps.
+    pub fn registers_read(registers: &[u32]) -> Vec<u32> {
+        super::Lighting::registers_read(registers).to_vec()
+    }
     /// the lighting whose packed words a well-formed block has.
     pub fn lighting_of(words: &[u32]) -> super::Lighting {
         use super::{Bump, Light, Lighting, Lookup, Shadow};

@@ -1,4 +1,5 @@
-//! Decoding and packing of the proved code, beside the Rust module's `Lighting::read` and `pack`.
+//! Decoding and packing of the proved code, beside the Rust module's `Lighting::read` and `pack`: by `read` and `pack`
+//! on the structs, and by `lighting_read`, whose block is all zero where the lighting is off.
 
 use crate::patterns::Random;
 
@@ -6,12 +7,8 @@ unsafe extern "C" {
     fn block_pack(file: *const u32, words: usize, block: *mut u32, block_words: usize) -> u32;
 }
 
-/// The words of a block.
-pub const BLOCK_WORDS: usize = 328;
-/// What a call returns where the lighting is off.
-pub const OFF: u32 = 100;
-
-/// Decodes a register file and packs its lighting: document 01's number, or [`OFF`]; then the block stays as it was.
+/// Decodes a register file and packs its lighting: document 01's number, or 100 where it is off; then the block
+/// stays as it was.
 pub fn pack(file: &[u32], block: &mut [u32]) -> u32 {
     unsafe { block_pack(file.as_ptr(), file.len(), block.as_mut_ptr(), block.len()) }
 }
@@ -28,8 +25,8 @@ fn register_word(r: &mut Random) -> u32 {
     }
 }
 
-/// A register file of 474 to 480 words in which the lighting is mostly on. One in four is ordinary: positions and distances
-/// that are no infinities or NaNs, and zeros in the registers that decoding does not read.
+/// A register file of 474 to 480 words in which the lighting is mostly on. One in four is ordinary: positions and
+/// distances that are no infinities or NaNs, and zeros in the registers that decoding does not read.
 pub fn register_file(r: &mut Random) -> Vec<u32> {
     let words = 474 + [0, 0, 0, 1, 6][r.below(5) as usize];
     let ordinary = r.below(4) == 0;
@@ -56,8 +53,10 @@ pub use compared::{compare, compare_patterns, replay_list, theirs, Tally};
 #[cfg(oracle)]
 mod compared {
     use super::*;
+    use crate::boundary::{read_file, OFF};
     use crate::oracle::Lighting;
     use crate::word;
+    use lighting::BLOCK_WORDS;
 
     /// The module's block of a register file, every NaN as 7FC00000; none where the lighting is off.
     pub fn theirs(file: &[u32]) -> Option<Vec<u32>> {
@@ -102,6 +101,11 @@ mod compared {
                     (OFF, before.to_vec())
                 }
             };
+            let (mut read, zero) = (before, vec![0; BLOCK_WORDS]);
+            let reading = read_file(file, &mut read);
+            if (reading, &read[..]) != (due, if due == OFF { &zero } else { &expected }) {
+                self.differs(format!("lighting_read gives {reading} and {read:08X?}, and not {due}, of the file {file:08X?}"));
+            }
             if number != due {
                 self.differs(format!("{number}, and not {due}, of the file {file:08X?}"));
             } else if let Some(at) = (0..BLOCK_WORDS).find(|i| block[*i] != expected[*i]) {
@@ -109,24 +113,26 @@ mod compared {
             }
         }
 
-        /// A short file, a block of another length, or both: the first number that document 01 names, and an untouched block.
+        /// A short file, a block of another length, or both: the first number that document 01 names, and an untouched
+        /// block.
         fn lengths(&mut self, file: &[u32], r: &mut Random) {
             let words = [0, 1, 473, 474, 475, 600][r.below(6) as usize];
             let size = [0, 1, 40, 327, 328, 329, 656][r.below(7) as usize];
             let mut cut = file.to_vec();
             cut.resize(words, 7);
             let mut block = vec![5; size];
-            let number = pack(&cut, &mut block);
             let on = words >= 474 && theirs(&cut).is_some();
             let due = match (words < 474, on, size == BLOCK_WORDS) {
-                (true, ..) => 1,
-                (_, false, _) => OFF,
-                (.., false) => 6,
+                (true, ..) => [1, 1],
+                // the structs' pack isn't called where the lighting is off
+                (_, false, false) => [OFF, 6],
+                (.., false) => [6, 6],
                 _ => return,
             };
+            let numbers = [pack(&cut, &mut block), read_file(&cut, &mut block)];
             self.refused += 1;
-            if number != due || block != vec![5; size] {
-                self.differs(format!("{number}, and not {due}, of {words} words into {size}"));
+            if numbers != due || block != vec![5; size] {
+                self.differs(format!("{numbers:?}, and not {due:?}, of {words} words into {size}"));
             }
         }
     }
@@ -144,7 +150,8 @@ mod compared {
         tally
     }
 
-    /// Every half in each component of a position, every 20-bit float as a bias and as a scale, and every spot component, eight lights at a time.
+    /// Every half in each component of a position, every 20-bit float as a bias and as a scale, and every spot
+    /// component, eight lights at a time.
     pub fn compare_patterns() -> Tally {
         let mut tally = Tally::default();
         let mut file = vec![0u32; 474];

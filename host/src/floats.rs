@@ -89,7 +89,8 @@ pub fn signed_place(x: f32) -> (u8, f32) {
     (entry as i8 as u8, x * 128.0 - entry)
 }
 
-/// What rustc's own max and min give of the two zeros, in either order; each call by itself, since the compiler may take two orders for one.
+/// What rustc's own max and min give of the two zeros, in either order; each call by itself, since the compiler may
+/// take two orders for one.
 pub fn zeros() -> String {
     use std::hint::black_box as held;
     let max = |x: f32, y: f32| held(x).max(held(y)).to_bits();
@@ -177,7 +178,8 @@ pub const MODULE: [Comparison; 11] = {
     ]
 };
 
-/// How many inputs were compared, how many of the results are NaN, and those that differ, the smallest of them with both results.
+/// How many inputs were compared, how many of the results are NaN, and those that differ, the smallest of them with
+/// both results.
 #[derive(Default)]
 pub struct Tally {
     pub compared: u64,
@@ -200,7 +202,8 @@ impl Tally {
     }
 }
 
-/// Compares on the operation's domain, or on at most `limit` inputs of it spread evenly, and, where it takes floats, on every odd tuple and `random` others.
+/// Compares on the operation's domain, or on at most `limit` inputs of it spread evenly, and, where it takes floats, on
+/// every odd tuple and `random` others.
 pub fn compare(c: &Comparison, limit: u64, random: u64, seed: u64) -> Tally {
     let mut tally = Tally::default();
     let mut input = [0u32; 8];

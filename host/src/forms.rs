@@ -1,11 +1,14 @@
-//! Which blocks are well formed: a checker written from document 01's sentence, beside the proved code's check.
+//! Which blocks are well formed: a checker written from document 01's sentence, beside the proved code's check and its
+//! block reader.
 //!
-//! The checker knows nothing of the proved code. It lists, for each place of a block, the words that may stand there, and
-//! a test holds those lists to what the Rust module writes.
+//! The checker knows nothing of the proved code. It lists, for each place of a block, the words that may stand there,
+//! and a test holds those lists to what the Rust module writes.
 
-use crate::blocks::{register_file, BLOCK_WORDS, OFF};
+use crate::blocks::register_file;
+use crate::boundary::{read_block, OFF};
 use crate::patterns::{Random, ODD};
 use crate::NAN;
+use lighting::BLOCK_WORDS;
 use std::sync::LazyLock;
 
 unsafe extern "C" {
@@ -48,7 +51,8 @@ impl Allowed {
     }
 }
 
-/// Document 01's sentence as lists: what may stand at each place of the 40 words before the slots and of a lit slot's 36.
+/// Document 01's sentence as lists: what may stand at each place of the 40 words before the slots and of a lit slot's
+/// 36.
 pub struct Checker {
     pub head: Vec<Allowed>,
     pub slot: Vec<Allowed>,
@@ -121,8 +125,8 @@ impl Checker {
     }
 }
 
-/// The words that a damaged place gets, besides its own with one bit flipped: small numbers, every power of two, NaNs of
-/// every class, infinities, subnormals, each scale with its neighbours, and the odd words of [`ODD`].
+/// The words that a damaged place gets, besides its own with one bit flipped: small numbers, every power of two, NaNs
+/// of every class, infinities, subnormals, each scale with its neighbours, and the odd words of [`ODD`].
 fn damages() -> Vec<u32> {
     let mut words: Vec<u32> = (0..=20).chain([31, 32, 48, 63, 64, 112, 127, 128, 255, 256, 257, 511, 512, 4095, 4096, u32::MAX]).collect();
     words.extend((0..32).map(|bit| 1 << bit));
@@ -145,15 +149,16 @@ fn file_with(lights: u32, part: u32, r: &mut Random) -> Vec<u32> {
     file[0x1C6] = 0;
     file[0x1C2] = lights - 1;
     let all = part.is_multiple_of(2);
-    // configuration 8 has every table; bump (normals or tangents), shadow (with all its flags or none), fresnel and clamp
-    // are all there, or none of them
+    // configuration 8 has every table; bump (normals or tangents), shadow (with all its flags or none), fresnel and
+    // clamp are all there, or none of them
     let (bump, shadow) = ((part / 2 % 2 + 1) << 28, (part / 4 % 2 * 0xF) << 16);
     file[0x1C3] = if all { 0x0800_008D | bump | shadow } else { 0 };
     file[0x1C4] = if all { 0 } else { u32::MAX };
     file
 }
 
-/// The blocks that are damaged: one to eight lights, every optional part there or missing, with NaNs and without, and off.
+/// The blocks that are damaged: one to eight lights, every optional part there or missing, with NaNs and without, and
+/// off.
 pub fn blocks() -> Vec<Vec<u32>> {
     let mut r = Random(11);
     let mut blocks = vec![vec![0; BLOCK_WORDS]];
@@ -194,14 +199,17 @@ impl Tally {
             WRONG_LENGTH => &mut self.wrong_length,
             _ => &mut self.not_well_formed,
         } += 1;
-        if ours != due {
+        // the block reader doesn't tell NaN from none
+        let (read, read_due) = (read_block(block), if due == WITH_NAN { NAN_FREE } else { due });
+        if ours != due || read != read_due {
             self.differ += 1;
-            self.first.get_or_insert_with(|| format!("{ours}, and not {due}, of the block {block:08X?}"));
+            self.first.get_or_insert_with(|| format!("{ours} and {read}, and not {due} and {read_due}, of the block {block:08X?}"));
         }
     }
 }
 
-/// Every block of [`blocks`] with every damage at every word, one at a time; as it is; and cut or grown to other lengths.
+/// Every block of [`blocks`] with every damage at every word, one at a time; as it is; and cut or grown to other
+/// lengths.
 pub fn compare_each() -> Tally {
     let (checker, damages, mut tally) = (Checker::default(), damages(), Tally::default());
     for mut block in blocks() {
@@ -263,8 +271,8 @@ mod written {
     use crate::blocks::theirs;
     use std::collections::BTreeSet;
 
-    /// The words that the module writes at each place of the head and of the first slot, over every value of the fields that
-    /// a place comes from; of the places that hold no float.
+    /// The words that the module writes at each place of the head and of the first slot, over every value of the fields
+    /// that a place comes from; of the places that hold no float.
     pub fn written() -> Vec<BTreeSet<u32>> {
         let mut found = vec![BTreeSet::new(); SLOTS + SLOT_WORDS];
         let mut base = vec![0u32; 474];

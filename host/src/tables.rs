@@ -1,54 +1,28 @@
 //! Register writes, uploads, restores and lookups of the proved code, beside the Rust module's.
 
 use crate::patterns::Random;
+use lighting::REGISTERS;
 
 unsafe extern "C" {
-    fn tables_write(file: *mut u32, words: usize, entries: *mut u32, entry_words: usize, generation: *mut u64, register: u32, value: u32) -> u32;
-    fn tables_restore(entries: *mut u32, entry_words: usize, generation: *mut u64, saved: *const u32, saved_words: usize) -> u32;
-    fn tables_save(entries: *const u32, entry_words: usize, output: *mut u32, output_words: usize) -> u32;
-    fn tables_lookup(entries: *const u32, entry_words: usize, table: u32, entry: u8, delta: f32) -> f32;
+    fn compare_lookup(entries: *const u32, entry_words: usize, table: u32, entry: u8, delta: f32) -> f32;
 }
 
-/// The words of 24 tables of 256 entries, a value and a step each.
-pub const ENTRY_WORDS: usize = 24 * 256 * 2;
-/// The words of a register file that count.
-pub const FILE_WORDS: usize = 474;
 /// The register that names the table and the entry of the next upload.
 pub const INDEX: usize = 0x1C5;
 
-/// A unit without its cache, as the proved code takes it. Each call returns document 01's number, 0 where it is done.
-#[derive(Clone, PartialEq)]
-pub struct Unit {
-    pub file: Vec<u32>,
-    pub entries: Vec<u32>,
-    pub generation: u64,
+/// The entry's value and its step times the delta, as shading takes them.
+pub fn lookup(tables: &[u32], table: u32, entry: u8, delta: f32) -> f32 {
+    // SAFETY: pointer and length are those of one slice, which is only read
+    unsafe { compare_lookup(tables.as_ptr(), tables.len(), table, entry, delta) }
 }
 
-impl Unit {
-    pub fn fresh(file_words: usize) -> Unit {
-        Unit { file: vec![0; file_words], entries: vec![0; ENTRY_WORDS], generation: 0 }
-    }
-
-    pub fn write(&mut self, register: u32, value: u32) -> u32 {
-        let (f, e) = (&mut self.file, &mut self.entries);
-        unsafe { tables_write(f.as_mut_ptr(), f.len(), e.as_mut_ptr(), e.len(), &mut self.generation, register, value) }
-    }
-
-    pub fn restore(&mut self, saved: &[u32]) -> u32 {
-        let e = &mut self.entries;
-        unsafe { tables_restore(e.as_mut_ptr(), e.len(), &mut self.generation, saved.as_ptr(), saved.len()) }
-    }
-
-    pub fn save(&self, output: &mut [u32]) -> u32 {
-        unsafe { tables_save(self.entries.as_ptr(), self.entries.len(), output.as_mut_ptr(), output.len()) }
-    }
-
-    pub fn lookup(&self, table: u32, entry: u8, delta: f32) -> f32 {
-        unsafe { tables_lookup(self.entries.as_ptr(), self.entries.len(), table, entry, delta) }
-    }
+/// Whether a register takes table data.
+pub fn is_data(register: u32) -> bool {
+    (0x1C8..=0x1CF).contains(&register)
 }
 
-/// Words that follow from a seed, for a restore: each is the one before times 1664525 plus 1013904223, and the first follows so from the seed.
+/// Words that follow from a seed, for a restore: each is the one before times 1664525 plus 1013904223, and the first
+/// follows so from the seed.
 pub fn generated(seed: u32, words: usize) -> Vec<u32> {
     let mut x = seed;
     let next = |_| {
@@ -58,7 +32,8 @@ pub fn generated(seed: u32, words: usize) -> Vec<u32> {
     (0..words).map(next).collect()
 }
 
-/// A register and a value: mostly table data and its index, of every table number and entry, with any bits above 1C5's fields.
+/// A register and a value: mostly table data and its index, of every table number and entry, with any bits above 1C5's
+/// fields.
 pub fn random_write(r: &mut Random) -> (u32, u32) {
     match r.below(16) {
         0..=9 => (0x1C8 + r.below(8), upload(r)),
@@ -66,7 +41,7 @@ pub fn random_write(r: &mut Random) -> (u32, u32) {
         11 => (INDEX as u32, r.below(32) << 8 | r.below(256)),
         12 => (INDEX as u32, r.below(32) << 8 | 254 | r.word() & 0xFFFF_0001),
         13 => (0x1C0 + r.below(26), r.word()),
-        14 => (r.below(FILE_WORDS as u32), r.word()),
+        14 => (r.below(REGISTERS as u32), r.word()),
         _ => ([473, 474, 475, 0x200, 0xFFFF_FFFF][r.below(5) as usize], r.word()),
     }
 }
@@ -87,8 +62,10 @@ pub use compared::{compare, replay_list, Tally};
 #[cfg(oracle)]
 mod compared {
     use super::*;
+    use crate::boundary::Unit;
     use crate::oracle::{access, Tables};
     use crate::word;
+    use lighting::TABLE_WORDS;
 
     /// The module's state, and what document 01 adds to it: which registers are table data, and the refusals.
     struct Theirs {
@@ -109,8 +86,8 @@ mod compared {
         }
 
         fn write(&mut self, register: u32, value: u32) -> u32 {
-            let data = (0x1C8..=0x1CF).contains(&register);
-            if register >= FILE_WORDS as u32 {
+            let data = is_data(register);
+            if register >= REGISTERS as u32 {
                 return 3;
             }
             if data && self.tables.generation() == u64::MAX && self.changes(value) {
@@ -151,6 +128,9 @@ mod compared {
         pub named: usize,
         /// refusals by their number
         pub refused: [u64; 6],
+        /// lists of writes in one call, and those that a refusal stopped
+        pub lists: u64,
+        pub stopped: u64,
         pub restores: u64,
         pub saves: u64,
         pub lookups: u64,
@@ -168,7 +148,7 @@ mod compared {
             self.writes += 1;
             self.refused[number as usize] += (number != 0) as u64;
             if number == 0 {
-                let data = (0x1C8..=0x1CF).contains(&register);
+                let data = is_data(register);
                 let kind = match (data, index >> 8 & 31 > 23, raised) {
                     (false, ..) => &mut self.registers,
                     (_, true, _) => &mut self.nowhere,
@@ -181,11 +161,12 @@ mod compared {
     }
 
     fn same(ours: &Unit, theirs: &Theirs) -> bool {
-        let differing = ours.entries.iter().zip(theirs.words()).fold(0, |d, (a, b)| d | (a ^ b.to_bits()));
+        let differing = ours.tables.iter().zip(theirs.words()).fold(0, |d, (a, b)| d | (a ^ b.to_bits()));
         differing == 0 && ours.generation == theirs.tables.generation() && ours.file == theirs.file
     }
 
-    /// Slices of lengths that are refused, one at a time and together: the number is the first that document 01 names, and nothing changes.
+    /// Slices of lengths that are refused, one at a time and together: the number is the first that document 01 names,
+    /// and nothing changes.
     fn wrong_lengths(ours: &Unit, r: &mut Random, tally: &mut Tally) {
         let (register, value) = random_write(r);
         let mut unit = ours.clone();
@@ -194,7 +175,7 @@ mod compared {
             unit.file.truncate([0, 1, INDEX, 473][r.below(4) as usize]);
         }
         if wrong {
-            unit.entries.resize([0, 1, 12_287, 12_289, 16_384][r.below(5) as usize], 7);
+            unit.tables.resize([0, 1, 12_287, 12_289, 16_384][r.below(5) as usize], 7);
         }
         if short || wrong {
             let before = unit.clone();
@@ -202,12 +183,12 @@ mod compared {
             let due = if short { 1 } else { 2 };
             tally.count(number, register, 0, false);
             if number != due || unit != before {
-                tally.differs(format!("a write to {} and {} words gives {number}, and not {due}", unit.file.len(), unit.entries.len()));
+                tally.differs(format!("a write to {} and {} words gives {number}, and not {due}", unit.file.len(), unit.tables.len()));
             }
         }
         let before = unit.clone();
-        let saved = generated(value, [ENTRY_WORDS, 0, 1, 12_286, 12_287, 12_289][r.below(6) as usize]);
-        let due = match (wrong, saved.len() == ENTRY_WORDS, unit.generation) {
+        let saved = generated(value, [TABLE_WORDS, 0, 1, 12_286, 12_287, 12_289][r.below(6) as usize]);
+        let due = match (wrong, saved.len() == TABLE_WORDS, unit.generation) {
             (true, ..) => 2,
             (_, false, _) => 5,
             (.., u64::MAX) => 4,
@@ -217,22 +198,42 @@ mod compared {
         let saving = unit.save(&mut output);
         tally.refused[due as usize] += 1;
         if number != due || unit != before || (due != 4 && (saving != due || output != saved)) {
-            tally.differs(format!("{} words restored to {} and saved give {number} and {saving}, and not {due}", saved.len(), unit.entries.len()));
+            tally.differs(format!("{} words restored to {} and saved give {number} and {saving}, and not {due}", saved.len(), unit.tables.len()));
+        }
+    }
+
+    /// A list of writes in one call, beside the module's writes up to the first that is refused.
+    fn write_list(ours: &mut Unit, theirs: &mut Theirs, r: &mut Random, tally: &mut Tally) {
+        let list: Vec<(u32, u32)> = (0..r.below(12)).map(|_| random_write(r)).collect();
+        let pairs: Vec<u32> = list.iter().flat_map(|(register, value)| [*register, *value]).collect();
+        let (mut done, mut due, mut number) = (u64::MAX, 0, 0);
+        for (register, value) in &list {
+            number = theirs.write(*register, *value);
+            if number != 0 {
+                tally.stopped += 1;
+                break;
+            }
+            due += 1;
+        }
+        tally.lists += 1;
+        let given = ours.writes(&pairs, &mut done);
+        if (given, done) != (number, due) || !same(ours, theirs) {
+            tally.differs(format!("{given} after {done} writes, and not {number} after {due}, of {list:X?}"));
         }
     }
 
     /// A whole restore of words that follow from a seed, odd words among them, and a save of them.
     fn restore_and_save(ours: &mut Unit, theirs: &mut Theirs, r: &mut Random, tally: &mut Tally) {
-        let mut saved = generated(r.word(), ENTRY_WORDS);
+        let mut saved = generated(r.word(), TABLE_WORDS);
         for _ in 0..1000 {
-            saved[r.below(ENTRY_WORDS as u32) as usize] = r.odd();
+            saved[r.below(TABLE_WORDS as u32) as usize] = r.odd();
         }
         let numbers = (ours.restore(&saved), theirs.restore(&saved));
         tally.restores += 1;
         if numbers.0 != numbers.1 || !same(ours, theirs) {
             tally.differs(format!("a restore gives {numbers:?}"));
         }
-        let mut output = vec![1; ENTRY_WORDS];
+        let mut output = vec![1; TABLE_WORDS];
         tally.saves += 1;
         let pairs = theirs.tables.saved();
         if ours.save(&mut output) != 0 || !output.iter().zip(pairs.as_flattened()).all(|(a, b)| *a == b.to_bits()) {
@@ -240,17 +241,18 @@ mod compared {
         }
     }
 
-    /// One run of `writes` random writes to units with files of several lengths, from a generation far below the last or just below it.
+    /// One run of `writes` random writes to units with files of several lengths, from a generation far below the last
+    /// or just below it.
     pub fn compare(writes: u64, seed: u64) -> Tally {
         let mut r = Random(seed);
         let mut tally = Tally::default();
         let mut named = [false; 32 * 256];
         let mut left = writes;
         while left > 0 {
-            let words = [FILE_WORDS, 475, 512, 1024][r.below(4) as usize];
+            let words = [REGISTERS, 475, 512, 1024][r.below(4) as usize];
             let generation = if r.below(4) == 0 { u64::MAX - r.below(3) as u64 } else { r.below(1000) as u64 };
             let file: Vec<u32> = (0..words).map(|_| r.word()).collect();
-            let mut ours = Unit { file: file.clone(), generation, ..Unit::fresh(words) };
+            let mut ours = Unit { file: file.clone(), generation, ..Unit::default() };
             let mut theirs = Theirs { file, tables: Tables::default() };
             access::start_at(&mut theirs.tables, generation);
             if r.below(2) == 0 {
@@ -261,18 +263,21 @@ mod compared {
                 let before = (ours.file[INDEX], ours.generation);
                 let numbers = (ours.write(register, value), theirs.write(register, value));
                 tally.count(numbers.0, register, before.0, ours.generation != before.1);
-                named[before.0 as usize % named.len()] |= numbers.0 == 0 && (0x1C8..=0x1CF).contains(&register);
+                named[before.0 as usize % named.len()] |= numbers.0 == 0 && is_data(register);
                 if numbers.0 != numbers.1 || !same(&ours, &theirs) {
                     tally.differs(format!("register {register:X}, value {value:08X}, index {:08X}, generation {}: {numbers:?}", before.0, before.1));
                 }
                 let (table, entry, delta) = (r.below(24), r.below(256) as u8, f32::from_bits(r.float()));
-                let found = (ours.lookup(table, entry, delta), access::lookup(&theirs.tables, table as usize, entry, delta));
+                let found = (lookup(&ours.tables, table, entry, delta), access::lookup(&theirs.tables, table as usize, entry, delta));
                 tally.lookups += 1;
                 if word(found.0) != word(found.1) {
                     tally.differs(format!("table {table}, entry {entry}, delta {delta:?}: {found:?}"));
                 }
                 if r.below(256) == 0 {
                     wrong_lengths(&ours, &mut r, &mut tally);
+                }
+                if r.below(16) == 0 {
+                    write_list(&mut ours, &mut theirs, &mut r, &mut tally);
                 }
             }
             left -= left.min(4096);
@@ -281,7 +286,8 @@ mod compared {
         tally
     }
 
-    /// Writes that document 01 names: −0 and +0 over each other, 255 going to 0, a table that is none, bits above 1C5's fields.
+    /// Writes that document 01 names: −0 and +0 over each other, 255 going to 0, a table that is none, bits above 1C5's
+    /// fields.
     const NAMED: [(u32, u32); 14] = [
         (0x1C5, 0),
         (0x1C8, 0x80_0000),
@@ -299,13 +305,14 @@ mod compared {
         (0x1CB, 0x7F_F800),
     ];
 
-    /// The list that the program `table_replay` replays: for each call its kind and two arguments, and the module's answer.
+    /// The list that the program `table_replay` replays: for each call its kind and two arguments, and the module's
+    /// answer.
     pub fn replay_list(seed: u64) -> String {
         let mut r = Random(seed);
-        let mut theirs = Theirs { file: vec![0; FILE_WORDS], tables: Tables::default() };
+        let mut theirs = Theirs { file: vec![0; REGISTERS], tables: Tables::default() };
         let mut list = format!("{REPLAY_HEADER}# made by make_table_replay {seed}\n");
         for i in 0..500 {
-            if let Some(words) = [(150, ENTRY_WORDS), (250, ENTRY_WORDS - 2), (350, ENTRY_WORDS)].iter().find(|at| at.0 == i).map(|at| at.1) {
+            if let Some(words) = [(150, TABLE_WORDS), (250, TABLE_WORDS - 2), (350, TABLE_WORDS)].iter().find(|at| at.0 == i).map(|at| at.1) {
                 let from = r.word();
                 let named = theirs.file[INDEX];
                 let number = theirs.restore(&generated(from, words));

@@ -20,7 +20,8 @@ fn damages_to_random_blocks_are_told() {
     agrees("random blocks damaged", compare_random(500_000, 7));
 }
 
-/// Document 01: words "hold only values `pack` can write for a lighting that `read` gives". The checker's lists are those values.
+/// Document 01: words "hold only values `pack` can write for a lighting that `read` gives". The checker's lists are
+/// those values.
 #[cfg(oracle)]
 #[test]
 fn the_checkers_lists_are_what_the_module_writes() {

@@ -6,5 +6,6 @@ fn hand_overs_agree_with_the_module() {
     println!("hand-overs: {tally:?}");
     assert_eq!(tally.differ, 0, "{tally:#?}");
     let refused = [tally.refused[1], tally.refused[2], tally.refused[6]];
-    assert!([tally.taken, tally.kept, tally.off].iter().chain(&refused).all(|n| *n > 500), "a case was hardly met: {tally:#?}");
+    let met = [tally.taken, tally.kept, tally.off, tally.wrong_size];
+    assert!(met.iter().chain(&refused).all(|n| *n > 500), "a case was hardly met: {tally:#?}");
 }

@@ -1,7 +1,8 @@
 //! Times the largest captures of the proved library call beside the Rust module fed the same bodies, in one run.
 //!
-//! Prints milliseconds for each call, the least of many rounds that take turns, and the ratio. Both work out the bytes that are printed from the
-//! bytes of the input; the proved code checks what document 01 asks for, keeps a cache and a copy, and reads the copy's block.
+//! Prints milliseconds for each call, the least of many rounds that take turns, and the ratio. Both work out the bytes
+//! that are printed from the bytes of the input; the proved code checks what document 01 asks for, keeps a cache and a
+//! copy, and reads the copy's block.
 fn main() {
     #[cfg(oracle)]
     timed::main();
@@ -11,7 +12,8 @@ fn main() {
 
 #[cfg(oracle)]
 mod timed {
-    use lighting_host::captures::{bytes, capture, largest, ordinary_fragments, print, theirs, Body, Tally, OUTPUT_BYTES};
+    use lighting_host::boundary::{self, bytes};
+    use lighting_host::captures::{capture, largest, ordinary_fragments, theirs, Body, Tally, OUTPUT_BYTES};
     use lighting_host::patterns::Random;
     use std::hint::black_box;
     use std::time::Instant;
@@ -26,10 +28,11 @@ mod timed {
 
     fn line(name: &str, input: &[u8]) {
         let (mut output, mut out, mut tally) = (vec![0; OUTPUT_BYTES], Vec::with_capacity(OUTPUT_BYTES), Tally::default());
+        let mut printed = 0;
         let mut least = [f64::MAX; 2];
         for _ in 0..ROUNDS {
             let ours = milliseconds(|| {
-                black_box(print(black_box(input), &mut output));
+                black_box(boundary::capture(black_box(input), &mut output, &mut printed));
             });
             let rust = milliseconds(|| {
                 out.clear();
@@ -37,7 +40,7 @@ mod timed {
             });
             least = [least[0].min(ours), least[1].min(rust)];
         }
-        assert_eq!(print(input, &mut output).1, out, "{name}");
+        assert_eq!(output[..printed as usize], out, "{name}");
         let lines = out.iter().filter(|b| **b == b'\n').count();
         println!("{name}: {} bytes, {lines} lines, {:.3} and {:.3} ms, ratio {:.2}", input.len(), least[0], least[1], least[0] / least[1]);
     }

@@ -2,6 +2,7 @@
 //!
 //! usage: compare_captures [CAPTURES [SEED]]
 //! CAPTURES is how many random captures there are (40000), one in four of them damaged; SEED starts them (1).
+//! Each is run with room for all that it prints and with an output of an awkward length.
 fn main() {
     #[cfg(oracle)]
     {

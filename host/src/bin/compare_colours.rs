@@ -1,4 +1,5 @@
-//! Compares the colours of block shading with the Rust module's, and the refusals of damaged blocks and lengths.
+//! Compares the colours of every call that shades with the Rust module's, and the refusals of damaged blocks and
+//! lengths.
 //!
 //! usage: compare_colours [FRAGMENTS [SEED]]
 //! FRAGMENTS is how many random fragments there are (10000000), SEED starts them (1).

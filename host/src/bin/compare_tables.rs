@@ -1,4 +1,4 @@
-//! Compares writes, uploads, restores, saves and lookups with the Rust module's.
+//! Compares writes, lists of writes, uploads, restores, saves and lookups with the Rust module's.
 //!
 //! usage: compare_tables [WRITES [SEED]]
 //! WRITES is how many random writes there are (4000000), SEED starts them (1). After each write the

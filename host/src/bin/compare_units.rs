@@ -1,7 +1,9 @@
-//! Compares hand-overs with document 01 and the Rust module's blocks.
+//! Compares hand-overs, cached reads and reads with document 01 and the Rust module's blocks: the library's, with a
+//! lent cache, and those on the structs.
 //!
 //! usage: compare_units [CALLS [SEED]]
-//! CALLS is how many calls of two to six hand-overs there are (1000000), SEED starts them (1).
+//! CALLS is how many calls of two to six hand-overs on the structs there are (1000000), each with the library's calls
+//! of the same files beside it; SEED starts them (1).
 fn main() {
     #[cfg(oracle)]
     {
