@@ -63,27 +63,34 @@ light-is v p f n d =
     also both-second (eqb (v 30) 0) (eqb (v 31) 0) (c 6)
     also both-first (eqb (v 34) 0) (eqb (v 35) 0) (c 7)
     also both-second (eqb (v 34) 0) (eqb (v 35) 0) (c 7)
+    also d
     also f
     also n
-    also d
 
-record Light (v : ℕ → ℕ) : Type 0 where
-  padding : paddingZero v ≡ true
-  flags : ltb (v 32) 128 ≡ true
-  number : ltb (v 33) 8 ≡ true
-  without : (bitAt (v 32) 16 || zeros v 28 2) ≡ true
+pub record Light (v : ℕ → ℕ) : Type 0 where
+  pub padding : paddingZero v ≡ true
+  pub flags : ltb (v 32) 128 ≡ true
+  pub number : ltb (v 33) 8 ≡ true
+  pub without : (bitAt (v 32) 16 || zeros v 28 2) ≡ true
 
-light-parts : (v : ℕ → ℕ) → lightFormed v ≡ true → Light v
+pub light-parts : (v : ℕ → ℕ) → lightFormed v ≡ true → Light v
 unfolding lightFormed lightPadded vectorsPadded paddingZero zeros every
 light-parts v h =
-    let cs : List Bool = eqb (v 7) 0 ∷ eqb (v 11) 0 ∷ eqb (v 15) 0 ∷ eqb (v 19) 0 ∷ eqb (v 23) 0 ∷ eqb (v 27) 0 ∷ eqb (v 30) 0 ∷ eqb (v 31) 0 ∷ eqb (v 34) 0 ∷ eqb (v 35) 0 ∷ ltb (v 32) 128 ∷ ltb (v 33) 8 ∷ (bitAt (v 32) 16 || (eqb (v 28) 0 && eqb (v 29) 0)) ∷ [] in
+    let cs : List Bool = eqb (v 7) 0 ∷ eqb (v 11) 0 ∷ eqb (v 15) 0 ∷ eqb (v 19) 0 ∷ eqb (v 23) 0 ∷ eqb (v 27) 0 ∷ eqb (v 30) 0 ∷ eqb (v 31) 0 ∷ eqb (v 34) 0 ∷ eqb (v 35) 0 ∷ (bitAt (v 32) 16 || (eqb (v 28) 0 && eqb (v 29) 0)) ∷ ltb (v 32) 128 ∷ ltb (v 33) 8 ∷ [] in
     let c : (i : ℕ) → getD cs i true ≡ true = chain-part (eqb (v 3) 0) cs h in
     record {
       padding = chain-first (eqb (v 3) 0) cs h also c 0 also c 1 also c 2 also c 3 also c 4 also c 5 also (c 6 also c 7) also (c 8 also c 9);
-      flags = c 10;
-      number = c 11;
-      without = c 12;
+      flags = c 11;
+      number = c 12;
+      without = c 10;
     }
+
+-- the last two words
+pub light-end : (v : ℕ → ℕ) → lightFormed v ≡ true → zeros v 34 2 ≡ true
+unfolding paddingZero
+light-end v h =
+    let front = eqb (v 3) 0 && eqb (v 7) 0 && eqb (v 11) 0 && eqb (v 15) 0 && eqb (v 19) 0 && eqb (v 23) 0 && eqb (v 27) 0 && zeros v 30 2 in
+    both-second front (zeros v 34 2) (light-parts v h .padding)
 
 -- the parts of a block
 

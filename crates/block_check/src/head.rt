@@ -10,31 +10,17 @@ ghost use Rattle.sources.specs.Steps.{given};
 ghost use Rattle.block.specs.Block.{words, from as fromOf};
 ghost use Rattle.block_check.specs.Steps.{lookupFormed, lookupsFormed, headFormed};
 
-// A lookup by each of its four words.
-fn present_formed(block: &[u32], bytes: &[u8], at: usize) -> bool
-    requires { ⌜ (length (given (now block) (now bytes)) ≡ 328) × (at + 4 ≤ 328) ⌝ }
-    ensures { λ r. ⌜ r ≡ lookupFormed (fromOf (words (given (now (block .entry)) (now (bytes .entry)))) at) ⌝ }
-{
-    let here = word(block, bytes, at);
-    let input = word(block, bytes, at + 1);
-    let absolute = word(block, bytes, at + 2);
-    let scale = word(block, bytes, at + 3);
-    (here < 2)
-        & (input < 8)
-        & (absolute < 2)
-        & scale_formed(scale)
-        & ((here == 1) | ((input == 0) & (absolute == 0) & (scale == 0)))
-}
-
-// The words of a missing lookup are all zero, and are not looked at one by one.
+// A lookup of four words: presence, input, absolute, scale. A missing one has zero words.
 fn lookup_formed(block: &[u32], bytes: &[u8], at: usize) -> bool
     requires { ⌜ (length (given (now block) (now bytes)) ≡ 328) × (at + 4 ≤ 328) ⌝ }
     ensures { λ r. ⌜ r ≡ lookupFormed (fromOf (words (given (now (block .entry)) (now (bytes .entry)))) at) ⌝ }
 {
-    if are_zero(block, bytes, at, 4) {
-        return true;
+    if word(block, bytes, at) == 1 {
+        return (word(block, bytes, at + 1) < 8)
+            & (word(block, bytes, at + 2) < 2)
+            & scale_formed(word(block, bytes, at + 3));
     }
-    present_formed(block, bytes, at)
+    are_zero(block, bytes, at, 4)
 }
 
 fn lookups_formed(block: &[u32], bytes: &[u8]) -> bool

@@ -1,14 +1,16 @@
 // What a block's words are: the check that runs at each call of the block shader. It goes over the words once, part by part, with no branch
-// for a word. The words come as words or as bytes. `zeros` has the words that must be zero, `options` and `head` the first 40, `lights` the lit slots, `floats` the NaNs.
+// for a word. The words come as words or as bytes. `lanes` are four words side by side, `zeros` has the words that must be zero, `options` and `head`
+// the first 40, `floats` the NaNs, `lights` the lit slots.
 mod floats;
 mod head;
+mod lanes;
 mod lights;
 mod options;
 mod zeros;
 
 use crate::floats::floats_form;
 use crate::head::head_formed;
-use crate::lights::lights_formed;
+use crate::lights::lights_of;
 use crate::zeros::are_zero;
 use crate::zeros::unused_are_zero;
 use block::BlockForm;
@@ -51,8 +53,10 @@ fn lit_form(block: &[u32], bytes: &[u8]) -> BlockForm
     if !head_formed(block, bytes) {
         return BlockForm::NotWellFormed;
     }
-    if !lights_formed(block, bytes, count) {
+    let lights = lights_of(block, bytes, count);
+    if !lights::are_formed(lights) {
         return BlockForm::NotWellFormed;
     }
-    floats_form(block, bytes, count)
+    let nans = lights.nans;
+    floats_form(block, bytes, count, lanes::are_clear(nans))
 }

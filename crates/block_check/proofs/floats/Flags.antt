@@ -1,5 +1,4 @@
--- The bits of NaNs and their sum. A sum of two numbers is zero only if both are, and a flag is zero exactly if its test fails.
--- Assumes nothing.
+-- The bits of NaNs: a flag is zero exactly if its test fails. Assumes nothing.
 use Prim.Native.Nat.{ℕ, _+_, _%_, _≤_}
 use native.Mathlib.Omega.{arith}
 use native.Mathlib.Nat.{zero-add}
@@ -9,10 +8,6 @@ use lib.Dec.{eqb, ltb, leb}
 use mir.Val.{boolByte}
 use borrow.Author.Tests.{eqb-true, eqb-false, ne-eqb, le-ltb, lt-ltb, leb-true, leb-false}
 use Rattle.block.specs.Block.{isNumber, floatFormed}
-
-pub sum-more : (n x : ℕ) (a p : Bool) → eqb n 0 ≡ a → eqb x 0 ≡ p → eqb (n + x) 0 ≡ (a && p)
-sum-more n x true p e q = ap (λ (k : ℕ). eqb (k + x) 0) (eqb-true n 0 e) ∙ ap (λ (k : ℕ). eqb k 0) (zero-add x) ∙ q
-sum-more n x false p e q = let z : n ≡ 0 → ⊥ = eqb-false n 0 e in ne-eqb (n + x) 0 (λ k. let h : n + x ≡ 0 = k in z (omega arith))
 
 flag-zero : (b : Bool) → eqb (boolByte b) 0 ≡ not b
 flag-zero true = refl
@@ -25,10 +20,6 @@ nan-flag n = flag-zero (ltb 0x7F80_0000 (n % 0x8000_0000)) ∙ above (leb (n % 0
     above : (b : Bool) → leb (n % 0x8000_0000) 0x7F80_0000 ≡ b → not (ltb 0x7F80_0000 (n % 0x8000_0000)) ≡ b
     above true e = rw (le-ltb 0x7F80_0000 (n % 0x8000_0000) (leb-true (n % 0x8000_0000) 0x7F80_0000 e)) refl
     above false e = rw (lt-ltb 0x7F80_0000 (n % 0x8000_0000) (leb-false (n % 0x8000_0000) 0x7F80_0000 e)) refl
-
-pub flag-few : (b : Bool) → boolByte b ≤ 1
-flag-few true = omega arith
-flag-few false = omega arith
 
 pub odd-flag : (n : ℕ) → eqb (boolByte (ltb 0x7F80_0000 (n % 0x8000_0000) && not (eqb n 0x7FC0_0000))) 0 ≡ floatFormed n
 unfolding floatFormed

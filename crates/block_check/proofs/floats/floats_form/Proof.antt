@@ -6,18 +6,9 @@ use Rattle.block_check.specs.Steps.{floatsForm}
 use Rattle.block_check.proofs.floats.floats_form.Statement.{statement}
 use Rattle.block_check.proofs.floats.floats_form.Tie as tie
 
-mul-nans : tie.Need-mul-nans
-mul-nans c = search needs
-
-add-nans : tie.Need-add-nans
-add-nans c = search needs
-
-nans-requires : tie.Need-nans-requires
-nans-requires c κs = search needs
-
 returns : tie.Need-returns
 unfolding floatsForm
-returns c = rw (sym (c .before .nans .ensures) ∙ eq-eqb (c .before .nans .result) 0 (c .if1 .taken)) refl
+returns c = rw (sym (c .before .before .before .pre .2) ∙ c .if1 .taken) refl
 
 mul-odd-nans : tie.Need-mul-odd-nans
 mul-odd-nans c = search needs
@@ -30,22 +21,12 @@ odd-nans-requires c κs = search needs
 
 returns-2 : tie.Need-returns-2
 unfolding floatsForm
-returns-2 c = rw (sym (c .before .before .before .nans .ensures) ∙ ne-eqb (c .before .before .before .nans .result) 0 (c .before .before .if1 .left), sym (c .before .odd-nans .ensures) ∙ eq-eqb (c .before .odd-nans .result) 0 (c .if2 .taken)) refl
+returns-2 c = rw (sym (c .before .before .before .before .before .pre .2) ∙ c .before .before .if1 .left, sym (c .before .odd-nans .ensures) ∙ eq-eqb (c .before .odd-nans .result) 0 (c .if2 .taken)) refl
 
 returns-3 : tie.Need-returns-3
 unfolding floatsForm
-returns-3 c = rw (sym (c .before .before .before .nans .ensures) ∙ ne-eqb (c .before .before .before .nans .result) 0 (c .before .before .if1 .left), sym (c .before .odd-nans .ensures) ∙ ne-eqb (c .before .odd-nans .result) 0 (c .if2 .left)) refl
+returns-3 c = rw (sym (c .before .before .before .before .before .pre .2) ∙ c .before .before .if1 .left, sym (c .before .odd-nans .ensures) ∙ ne-eqb (c .before .odd-nans .result) 0 (c .if2 .left)) refl
 
 pub floats-form-spec : {M : Type 1} → statement M
 floats-form-spec =
-    tie.close
-    (tie.spec
-    mul-nans
-    add-nans
-    nans-requires
-    returns
-    mul-odd-nans
-    add-odd-nans
-    odd-nans-requires
-    returns-2
-    returns-3)
+    tie.close (tie.spec returns mul-odd-nans add-odd-nans odd-nans-requires returns-2 returns-3)

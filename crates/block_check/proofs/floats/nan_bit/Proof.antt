@@ -1,8 +1,6 @@
--- `floats::nan_bit` meets its contract: a word is a number or above the infinities, and a flag is at most 1. Assumes nothing.
-use Prim.Native.Nat.{_%_}
-use lib.Dec.{ltb}
+-- `floats::nan_bit` meets its contract: a word is a number or above the infinities. Assumes nothing.
 use borrow.Author.Needs.{needs}
-use Rattle.block_check.proofs.floats.Flags.{nan-flag, flag-few}
+use Rattle.block_check.proofs.floats.Flags.{nan-flag}
 use Rattle.block_check.proofs.floats.nan_bit.Statement.{statement}
 use Rattle.block_check.proofs.floats.nan_bit.Tie as tie
 
@@ -10,7 +8,7 @@ cast-result : tie.Need-cast-result
 cast-result c = search needs
 
 returns : tie.Need-returns
-returns c = (nan-flag (c .args .n), flag-few (ltb 0x7F80_0000 (c .args .n % 0x8000_0000)))
+returns c = nan-flag (c .args .n)
 
 pub nan-bit-spec : {M : Type 1} → statement M
 nan-bit-spec =
