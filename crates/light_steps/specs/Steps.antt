@@ -11,7 +11,7 @@ use Rattle.binary32.specs.declared.Place.{Place}
 use Rattle.vectors.specs.Vectors.{at, _⊕_, _⊗_, _⊘_, dotOf, timesOf}
 use Rattle.vectors.specs.Steps.{minusOf}
 use Rattle.tables.specs.Tables.{tableLookup}
-use Rattle.lighting.specs.Lighting.{tableDistribution0, tableDistribution1, tableFresnel, tableReflectBlue, tableReflectGreen, tableReflectRed, tableSpotlight, tableDistance}
+use Rattle.lighting.specs.Lighting.{tableDistribution0, tableDistribution1, tableFresnel, tableReflectBlue, tableReflectGreen, tableReflectRed, tableSpotlight, tableDistance, zeroVector}
 use Rattle.lighting.specs.declared.Light.{Light}
 use Rattle.lighting.specs.declared.LightNumber.{LightNumber}
 use Rattle.lighting.specs.declared.Lookup.{Lookup}
@@ -20,7 +20,7 @@ use Rattle.lighting.specs.declared.OptionalLookup.the-variants.{Missing, Presen
 use Rattle.lighting.specs.declared.Distance.{Distance}
 use Rattle.lighting.specs.declared.Distance.the-variants.{Without, Scaled}
 use Rattle.surface.specs.declared.Frame.{Frame}
-use Rattle.surface.specs.Steps.{unitIf, offsetNorm, directionsOf}
+use Rattle.surface.specs.Steps.{unitIf, offsetNorm, directionsBy, directionsOf}
 use Rattle.surface.specs.declared.Directions.{Directions}
 use Rattle.light_steps.specs.declared.types.LightingLookups.{LightingLookups}
 use Rattle.light_steps.specs.declared.types.Reading.{Reading}
@@ -339,6 +339,11 @@ withValues sums light normal directions v settings last =
     (facingOf (light .«two_sided») (dotOf (directions .«light_vector») normal))
 
 -- ---- one light
+
+-- of a light without tables only a geometric factor reads the half vector: one without that is left without it
+unfoldable pub unreadDirections : Light → List Float → Frame → Bool → Directions
+unreadDirections light vector frame needed =
+    cond (light .geometric0 || light .geometric1) (directionsBy vector frame needed) (record { «light_vector» = vector; half = zeroVector })
 
 -- the sums with one light's contribution; `last` is the last slot lit
 unfoldable pub stepOf : List ℕ → LightingLookups → Frame → Settings → Bool → Light → Sums → Sums

@@ -16,7 +16,7 @@ ghost use mathlib.Core.Path.{_≡_};
 ghost use Prim.Native.Nat.{_<_};
 ghost use lib.ListN.{length};
 ghost use Rattle.sources.specs.Steps.{given};
-ghost use Rattle.light_steps.specs.Steps.{distanceReadingBy, readValue, distanceReading, valuesOf, stepOf};
+ghost use Rattle.light_steps.specs.Steps.{distanceReadingBy, readValue, distanceReading, valuesOf, unreadDirections, stepOf};
 use crate::types::LightingLookups;
 use crate::types::Settings;
 use crate::types::Sums;
@@ -52,8 +52,22 @@ fn values_of(
     values::values_from(lookups, light, read, last)
 }
 
-// The sums with one light's contribution. `last` is the last slot lit. Without tables only a geometric factor reads the half vector: made in that branch, it
-// is worked out for such a light alone.
+// The directions of a light without tables, of which only a geometric factor reads the half vector: made in that branch, it is worked out for such a light
+// alone.
+fn unread_directions(light: Light, vector: [f32; 3], frame: Frame, needed: bool) -> Directions
+    ensures { λ r. ⌜ r ≡ unreadDirections light vector frame needed ⌝ }
+{
+    if flags::either(light.geometric0, light.geometric1) {
+        surface::light::directions_of(vector, frame, needed)
+    } else {
+        Directions {
+            light_vector: vector,
+            half: [0.0, 0.0, 0.0],
+        }
+    }
+}
+
+// The sums with one light's contribution. `last` is the last slot lit.
 // Asks: tables of 12,288 words and a light number below 8, which the caller has looked at once for all its lights and fragments.
 pub fn step(
     tables: &[u32],
@@ -87,7 +101,7 @@ pub fn step(
         );
         contribution::with_values(sums, light, normal, directions, values, settings, last)
     } else {
-        let directions = surface::light::directions_of(vector, frame, lookups.needs_half);
+        let directions = unread_directions(light, vector, frame, lookups.needs_half);
         contribution::with_unread(sums, light, normal, directions, distance, settings, last)
     }
 }

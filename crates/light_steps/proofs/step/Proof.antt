@@ -1,11 +1,13 @@
--- `light_steps::step` meets its contract: each operation and call is the definition's, in its order, and a light that reads no table has 1 for each value.
+-- `light_steps::step` meets its contract: each operation and call is the definition's, in its order, and a light that reads no table has 1 for each value and
+-- reads the half vector only with a geometric flag.
 -- Assumes nothing.
-use mathlib.Core.Path.{sym, _∙_}
+use mathlib.Core.Path.{refl, sym, ap, _∙_}
 use Rattle.sources.specs.Steps.{given}
-use Rattle.light_steps.specs.Steps.{stepOf}
+use Rattle.surface.specs.declared.Directions.{Directions}
+use Rattle.light_steps.specs.Steps.{unread, withValues, stepOf}
 use Rattle.surface.specs.Steps.{directionsOf}
 use Rattle.light_steps.specs.ReadingsLaws.{read-none}
-use Rattle.light_steps.proofs.Rays.{directions-is, distance-is}
+use Rattle.light_steps.proofs.Rays.{directions-is, distance-is, unread-is}
 use borrow.Author.Needs.{needs}
 use Rattle.light_steps.proofs.step.Statement.{statement}
 use Rattle.light_steps.proofs.step.Tie as tie
@@ -31,8 +33,8 @@ values-of-requires c κs =
 with-values-requires : tie.Need-with-values-requires
 with-values-requires c κs = search needs
 
-directions-of-requires-2 : tie.Need-directions-of-requires-2
-directions-of-requires-2 c κs = search needs
+unread-directions-requires : tie.Need-unread-directions-requires
+unread-directions-requires c κs = search needs
 
 with-unread-requires : tie.Need-with-unread-requires
 with-unread-requires c κs = search needs
@@ -50,11 +52,14 @@ unfolding stepOf
 returns-2 c =
     let d = c .before .before .before .before in
     let s = d .before .before .before .before .before .before .before in
-    simp (
-      c .with-unread .ensures,
-      directions-is (s .args .light) (s .args .frame) (s .args .lookups .«needs_half») _ _ (d .before .before .ray-to .ensures) (c .before .directions-of2 .ensures),
-      distance-is (given (s .args .tables .now) (s .args .bytes .now)) (s .args .light) (s .args .frame .view) _ _ (d .before .before .ray-to .ensures) (d .distance-of .ensures),
-      read-none (given (s .args .tables .now) (s .args .bytes .now)) (s .args .lookups) (s .args .frame) (directionsOf (s .args .light) (s .args .frame) (s .args .lookups .«needs_half»)) (s .args .light) (s .args .last) (s .pre .1) (sym (c .before .before .before .reads-tables .ensures) ∙ c .before .before .if1 .left),
+    let a = s .args in
+    c .with-unread .ensures
+    ∙ ap (λ (x : Directions). withValues (a .sums) (a .light) (a .frame .normal) x (unread (d .distance-of .result)) (a .settings) (a .last)) (c .before .unread-directions .ensures)
+    ∙ unread-is (a .sums) (a .light) (a .frame .normal) (d .before .before .ray-to .result .vector) (a .frame) (a .lookups .«needs_half») (unread (d .distance-of .result)) (a .settings) (a .last)
+    ∙ simp (
+      directions-is (a .light) (a .frame) (a .lookups .«needs_half») _ _ (d .before .before .ray-to .ensures) refl,
+      distance-is (given (a .tables .now) (a .bytes .now)) (a .light) (a .frame .view) _ _ (d .before .before .ray-to .ensures) (d .distance-of .ensures),
+      read-none (given (a .tables .now) (a .bytes .now)) (a .lookups) (a .frame) (directionsOf (a .light) (a .frame) (a .lookups .«needs_half»)) (a .light) (a .last) (s .pre .1) (sym (c .before .before .before .reads-tables .ensures) ∙ c .before .before .if1 .left),
     )
 
 pub step-spec : {M : Type 1} → statement M
@@ -67,7 +72,7 @@ step-spec =
     directions-of-requires
     values-of-requires
     with-values-requires
-    directions-of-requires-2
+    unread-directions-requires
     with-unread-requires
     returns
     returns-2)
