@@ -8,11 +8,12 @@ use block_reading::is_lit;
 use block_reading::is_plain;
 use refusals::Refusal;
 ghost use mathlib.Core.Path.{_≡_};
-ghost use Prim.Native.Nat.{_*_, _/_};
+ghost use Prim.Native.Nat.{_*_, _/_, _<_};
 ghost use lib.ListN.{length};
 ghost use Rattle.shading.specs.Shade.{shaded};
 ghost use Rattle.block.specs.Steps.{blockForm};
-ghost use Rattle.block_shading.specs.BlockShading.{blockShading, shadeFragments, shadedNumber};
+ghost use Rattle.surface.specs.Steps.{unitQuaternion};
+ghost use Rattle.block_shading.specs.BlockShading.{quaternionOf, blockShading, shadeFragments, shadedNumber};
 ghost use Rattle.block_shading.specs.Steps.{isOff, shadedByForm};
 
 // What block shading answers: a refusal or off, with the answer slice as it was, or Done.
@@ -34,6 +35,18 @@ pub fn is_off(form: BlockForm) -> bool
     }
 }
 
+// The first fragment's unit quaternion, where there is a fragment.
+fn first_unit_quaternion(fragments: &[u32]) -> [f32; 4]
+    ensures { λ r. ⌜ (0 < length (now (fragments .entry)) / 23 → r ≡ unitQuaternion (quaternionOf (now (fragments .entry)))) ⌝ }
+{
+    if fragments.len() < 23 {
+        [0.0, 0.0, 0.0, 1.0]
+    } else {
+        let none = [0u8; 0];
+        slots::unit_quaternion_of(fragments, &none, 0)
+    }
+}
+
 // What the form of the block leaves: the channels of each fragment, or off, or a refusal.
 fn shade_by_form(
     block: &[u32],
@@ -45,6 +58,7 @@ fn shade_by_form(
     ensures { λ r. ⌜ shaded (shadedNumber r) (now (answers .exit)) ≡ shadedByForm (now (block .entry)) (now (tables .entry)) (now (fragments .entry)) (now (answers .entry)) ⌝ }
 {
     let none = [0u8; 0];
+    let first = first_unit_quaternion(fragments);
     let form = block_check::form(block, &none);
     if is_lit(form) {
         slots::shade_each(
@@ -54,6 +68,8 @@ fn shade_by_form(
             &none,
             fragments,
             &none,
+            fragments.len() / 23,
+            first,
             is_plain(form),
             answers,
         );

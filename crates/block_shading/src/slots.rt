@@ -18,6 +18,7 @@ ghost use Rattle.block.specs.Block.{words, wellFormed, blockLights, blockLighti
 ghost use Rattle.block.specs.Steps.{nanFree};
 ghost use Rattle.lighting.specs.Lighting.{bumpUnit, shadowUnit};
 ghost use Rattle.block_shading.specs.Steps.{headOf};
+ghost use Rattle.surface.specs.Steps.{unitQuaternion};
 ghost use Rattle.shading.specs.Steps.{sumsBy, lightingFrame, lightingShadow};
 use crate::fragments;
 
@@ -30,16 +31,24 @@ fn head_of(block: &[u32], bytes: &[u8], plain: bool) -> Lighting
     block_reading::head::lighting_with(block, bytes, plain, lights)
 }
 
-// Of the fragment whose words start at `at`.
-fn frame_of(l: Lighting, words: &[u32], bytes: &[u8], at: usize) -> Frame
-    requires { ⌜ (bumpUnit (l .bump) ≤ 3) × (at + 23 ≤ length (given (now words) (now bytes))) × (at + 23 < 0x10000000000000000) ⌝ }
+// The unit quaternion of the fragment whose words start at `at`.
+// Asks: there are its 23 words.
+pub fn unit_quaternion_of(words: &[u32], bytes: &[u8], at: usize) -> [f32; 4]
+    requires { ⌜ (at + 23 ≤ length (given (now words) (now bytes))) × (at + 23 < 0x10000000000000000) ⌝ }
+    ensures { λ r. ⌜ r ≡ unitQuaternion (quaternionOf (drop at (given (now (words .entry)) (now (bytes .entry))))) ⌝ }
+{
+    surface::unit_quaternion(fragments::quaternion_of(words, bytes, at))
+}
+
+// Of the fragment whose words start at `at`, with its unit quaternion.
+fn frame_of(l: Lighting, words: &[u32], bytes: &[u8], at: usize, unit: [f32; 4]) -> Frame
+    requires { ⌜ (bumpUnit (l .bump) ≤ 3) × (at + 23 ≤ length (given (now words) (now bytes))) × (at + 23 < 0x10000000000000000) × (unit ≡ unitQuaternion (quaternionOf (drop at (given (now words) (now bytes))))) ⌝ }
     ensures { λ r. ⌜ r ≡ lightingFrame l (quaternionOf (drop at (given (now (words .entry)) (now (bytes .entry))))) (viewOf (drop at (given (now (words .entry)) (now (bytes .entry))))) (texelsOf (drop at (given (now (words .entry)) (now (bytes .entry))))) ⌝ }
 {
     let bump = l.bump;
-    let quaternion = fragments::quaternion_of(words, bytes, at);
     let view = fragments::view_of(words, bytes, at);
     let texel = fragments::texel_at(words, bytes, at, lighting::bump_unit(bump));
-    surface::frame_of(bump, texel, l.config, l.needs_view, quaternion, view)
+    surface::frame_of(bump, texel, l.config, l.needs_view, unit, view)
 }
 
 fn shadow_of(l: Lighting, words: &[u32], bytes: &[u8], at: usize) -> [f32; 4]
@@ -91,7 +100,7 @@ fn sum_slots(
     sums
 }
 
-// The eight channels of the fragment whose words start at `at`, by the block and its head.
+// The eight channels of the fragment whose words start at `at`, by the block and its head, and the fragment's unit quaternion.
 fn shade_one(
     block: &[u32],
     block_bytes: &[u8],
@@ -102,13 +111,14 @@ fn shade_one(
     at: usize,
     plain: bool,
     head: Lighting,
+    unit: [f32; 4],
 ) -> [u32; 8]
     requires { ⌜ (length (given (now block) (now «block_bytes»)) ≡ 328) × (length (given (now tables) (now «table_bytes»)) ≡ 12288) × (at + 23 ≤ length (given (now fragments) (now «fragment_bytes»))) × (at + 23 < 0x10000000000000000) ⌝ }
     requires { ⌜ (wellFormed (words (given (now block) (now «block_bytes»))) ≡ true) × (head ≡ headOf (words (given (now block) (now «block_bytes»)))) ⌝ }
-    requires { ⌜ (plain ≡ true → nanFree (words (given (now block) (now «block_bytes»))) ≡ true) ⌝ }
+    requires { ⌜ (plain ≡ true → nanFree (words (given (now block) (now «block_bytes»))) ≡ true) × (unit ≡ unitQuaternion (quaternionOf (drop at (given (now fragments) (now «fragment_bytes»))))) ⌝ }
     ensures { λ r. ⌜ r ≡ eightOf (blockLighting (words (given (now (block .entry)) (now («block_bytes» .entry))))) (given (now (tables .entry)) (now («table_bytes» .entry))) (drop at (given (now (fragments .entry)) (now («fragment_bytes» .entry)))) ⌝ }
 {
-    let frame = frame_of(head, fragments, fragment_bytes, at);
+    let frame = frame_of(head, fragments, fragment_bytes, at, unit);
     let shadow = shadow_of(head, fragments, fragment_bytes, at);
     let lookups = shading::parts::lookups_of(head);
     let settings = shading::parts::settings_of(head, shadow);
@@ -126,7 +136,20 @@ fn shade_one(
     shading::parts::finished(head, sums, shadow)
 }
 
-// The eight channels of each fragment, 0 to 255, in the printed order, into its 8 words of the answers.
+// The unit quaternion of fragment i: the first one's is there.
+fn unit_quaternion_at(fragments: &[u32], bytes: &[u8], i: usize, first: [f32; 4]) -> [f32; 4]
+    requires { ⌜ (i < length (given (now fragments) (now bytes)) / 23) × (length (given (now fragments) (now bytes)) < 0x10000000000000000) × (first ≡ unitQuaternion (quaternionOf (given (now fragments) (now bytes)))) ⌝ }
+    ensures { λ r. ⌜ r ≡ unitQuaternion (quaternionOf (drop (23 * i) (given (now (fragments .entry)) (now (bytes .entry))))) ⌝ }
+{
+    if i == 0 {
+        first
+    } else {
+        unit_quaternion_of(fragments, bytes, 23 * i)
+    }
+}
+
+// The eight channels of each of `count` fragments, 0 to 255, in the printed order, into its 8 words of the answers. `first` is the first fragment's unit
+// quaternion: whoever makes it before the check of the block has its root and quotients done while the check runs.
 // Asks: the right lengths and a well-formed block, without a NaN's pattern where `plain` is set: its callers, on words and on bytes, have checked them. One
 // function serves one fragment and many, since the steps of a light are put into its loop only while they are called from one place.
 pub fn shade_each(
@@ -136,18 +159,20 @@ pub fn shade_each(
     table_bytes: &[u8],
     fragments: &[u32],
     fragment_bytes: &[u8],
+    count: usize,
+    first: [f32; 4],
     plain: bool,
     answers: &mut [u32],
 )
-    requires { ⌜ (length (given (now block) (now «block_bytes»)) ≡ 328) × (length (given (now tables) (now «table_bytes»)) ≡ 12288) × (length (now answers) ≡ 8 * (length (given (now fragments) (now «fragment_bytes»)) / 23)) ⌝ }
+    requires { ⌜ (length (given (now block) (now «block_bytes»)) ≡ 328) × (length (given (now tables) (now «table_bytes»)) ≡ 12288) × (count ≡ length (given (now fragments) (now «fragment_bytes»)) / 23) × (length (given (now fragments) (now «fragment_bytes»)) < 0x10000000000000000) × (length (now answers) ≡ 8 * count) ⌝ }
     requires { ⌜ wellFormed (words (given (now block) (now «block_bytes»))) ≡ true ⌝ }
-    requires { ⌜ (plain ≡ true → nanFree (words (given (now block) (now «block_bytes»))) ≡ true) ⌝ }
+    requires { ⌜ (plain ≡ true → nanFree (words (given (now block) (now «block_bytes»))) ≡ true) × (0 < count → first ≡ unitQuaternion (quaternionOf (given (now fragments) (now «fragment_bytes»)))) ⌝ }
     ensures { λ _. ⌜ now (answers .exit) ≡ eightOfEach (blockLighting (words (given (now (block .entry)) (now («block_bytes» .entry))))) (given (now (tables .entry)) (now («table_bytes» .entry))) (length (given (now (fragments .entry)) (now («fragment_bytes» .entry))) / 23) (given (now (fragments .entry)) (now («fragment_bytes» .entry))) ⌝ }
 {
     let head = head_of(block, block_bytes, plain);
-    let count = sources::count(fragments, fragment_bytes) / 23;
     let mut i = 0;
     while i < count {
+        let unit = unit_quaternion_at(fragments, fragment_bytes, i, first);
         let channels = shade_one(
             block,
             block_bytes,
@@ -158,6 +183,7 @@ pub fn shade_each(
             23 * i,
             plain,
             head,
+            unit,
         );
         shading::answer_words::put(answers, 8 * i, channels);
         i += 1;

@@ -25,7 +25,19 @@ fn print_lit(
 {
     let mut k = [0u32; 8];
     let none = [0u8; 0];
-    block_shading::slots::shade_each(block, &none, tables, &none, fragment, &none, plain, &mut k);
+    let unit = block_shading::slots::unit_quaternion_of(fragment, &none, 0);
+    block_shading::slots::shade_each(
+        block,
+        &none,
+        tables,
+        &none,
+        fragment,
+        &none,
+        1,
+        unit,
+        plain,
+        &mut k,
+    );
     put_line(out, at, k)
 }
 

@@ -162,6 +162,7 @@ pub extern "C" fn lighting_shade_block(
         return 9;
     }
     let none = [0u32; 0];
+    let unit = block_shading::slots::unit_quaternion_of(&none, fragment, 0);
     let form = block_check::form(&none, block);
     if is_lit(form) {
         let mut channels = [0u32; 8];
@@ -172,6 +173,8 @@ pub extern "C" fn lighting_shade_block(
             tables,
             &none,
             fragment,
+            1,
+            unit,
             is_plain(form),
             &mut channels,
         );

@@ -97,7 +97,8 @@ pub(crate) fn frame_of(
 {
     let bump = l.bump;
     let texel = texel_of(texels, lighting::bump_unit(bump));
-    surface::frame_of(bump, texel, l.config, l.needs_view, quaternion, view)
+    let unit = surface::unit_quaternion(quaternion);
+    surface::frame_of(bump, texel, l.config, l.needs_view, unit, view)
 }
 
 pub(crate) fn shadow_of(l: Lighting, texels: [[f32; 4]; 4]) -> [f32; 4]

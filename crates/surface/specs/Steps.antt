@@ -62,14 +62,18 @@ tangentOf config quaternion tangent = cond (eqb config 8) (rotateOf quaternion t
 unfoldable pub unitIf : Bool → List Float → List Float
 unitIf needed v = cond needed (normalizedOf v) zeroVector
 
-unfoldable pub frameOf : Bump → List Float → ℕ → Bool → List Float → List Float → Frame
-frameOf bump texel config needed quaternion view =
+-- of a unit quaternion
+abbrev pub frameBy : Bump → List Float → ℕ → Bool → List Float → List Float → Frame
+frameBy bump texel config needed unit view =
     record {
-      normal = rotateOf (unitQuaternion quaternion) (surfaceNormal bump texel);
-      tangent = tangentOf config (unitQuaternion quaternion) (surfaceTangent bump texel);
+      normal = rotateOf unit (surfaceNormal bump texel);
+      tangent = tangentOf config unit (surfaceTangent bump texel);
       view = view;
       «norm_view» = unitIf needed view;
     }
+
+unfoldable pub frameOf : Bump → List Float → ℕ → Bool → List Float → List Float → Frame
+frameOf bump texel config needed quaternion view = frameBy bump texel config needed (unitQuaternion quaternion) view
 
 -- ---- the shadow, from the texel of its unit
 

@@ -5,7 +5,7 @@ pub mod light;
 pub mod shadow;
 
 ghost use mathlib.Core.Path.{_≡_};
-ghost use Rattle.surface.specs.Steps.{quaternionNorm, unitQuaternion, tangentOf, unitIf, frameOf};
+ghost use Rattle.surface.specs.Steps.{quaternionNorm, unitQuaternion, tangentOf, unitIf, frameBy};
 use lighting::Bump;
 
 // What every light sees of the fragment: the surface's normal and tangent, turned by the quaternion,
@@ -35,7 +35,8 @@ fn quaternion_norm(q: [f32; 4]) -> f32
     root::root(q[0] * q[0] + q[1] * q[1] + q[2] * q[2] + q[3] * q[3])
 }
 
-fn unit_quaternion(q: [f32; 4]) -> [f32; 4]
+// A norm that isn't above zero, or is NaN, gives 0, 0, 0, 1.
+pub fn unit_quaternion(q: [f32; 4]) -> [f32; 4]
     ensures { λ r. ⌜ r ≡ unitQuaternion q ⌝ }
 {
     let norm = quaternion_norm(q);
@@ -68,18 +69,17 @@ pub fn unit_if(needed: bool, v: [f32; 3]) -> [f32; 3]
     }
 }
 
-// From the texel of the bump's unit.
+// From the texel of the bump's unit and the unit quaternion.
 pub fn frame_of(
     bump: Bump,
     texel: [f32; 4],
     config: u32,
     needed: bool,
-    quaternion: [f32; 4],
+    unit: [f32; 4],
     view: [f32; 3],
 ) -> Frame
-    ensures { λ r. ⌜ r ≡ frameOf bump texel config needed quaternion view ⌝ }
+    ensures { λ r. ⌜ r ≡ frameBy bump texel config needed unit view ⌝ }
 {
-    let unit = unit_quaternion(quaternion);
     let normal = vectors::rotation::rotate(unit, bump::surface_normal(bump, texel));
     let tangent = tangent(config, unit, bump::surface_tangent(bump, texel));
     let norm_view = unit_if(needed, view);

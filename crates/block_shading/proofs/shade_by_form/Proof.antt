@@ -1,6 +1,7 @@
 -- `block_shading::shade_by_form` meets its contract: the form of the block's words leads to one of the definition's three answers, and in the lit case
 -- `shade_each` leaves its words. Assumes nothing.
-use mathlib.Core.Path.{_≡_, sym, ap, _∙_}
+use native.Mathlib.Omega.{arith}
+use mathlib.Core.Path.{_≡_, refl, sym, ap, _∙_}
 use mathlib.Core.Bool.{true, false}
 use Rattle.sources.specs.Steps.{given}
 use Rattle.block.specs.Steps.{blockForm}
@@ -11,6 +12,9 @@ use Rattle.block_shading.specs.Steps.{isOff, shadedByForm}
 use borrow.Author.Needs.{needs}
 use Rattle.block_shading.proofs.shade_by_form.Statement.{statement}
 use Rattle.block_shading.proofs.shade_by_form.Tie as tie
+
+first-unit-quaternion-requires : tie.Need-first-unit-quaternion-requires
+first-unit-quaternion-requires c κs = search needs
 
 slice-aggregate-form : tie.Need-slice-aggregate-form
 slice-aggregate-form c = search needs
@@ -36,11 +40,11 @@ is-plain-requires c κs = search needs
 shade-each-requires : tie.Need-shade-each-requires
 unfolding given
 shade-each-requires c κs =
-    let s = c .before .before .before .before .before .before .before .before .before .before .before .before .before in
+    let s = c .before .before .before .before .before .before .before .before .before .before .before .before .before .before in
     let b = s .args .block .now in
     let f = c .before .before .before .before .before .before .before .form .ensures in
     let l : isLit (blockForm b) ≡ true = sym (ap isLit f) ∙ sym (c .before .before .before .before .before .before .is-lit .ensures) ∙ c .before .before .before .before .before .if1 .taken in
-    (s .pre, (is-lit b l .formed, λ p. is-plain b (sym (ap isPlain f) ∙ sym (c .before .is-plain .ensures) ∙ p)))
+    ((s .pre .0, s .pre .1, refl, omega arith, s .pre .2), (is-lit b l .formed, (λ p. is-plain b (sym (ap isPlain f) ∙ sym (c .before .is-plain .ensures) ∙ p), c .before .before .before .before .before .before .before .before .before .first-unit-quaternion .ensures)))
 
 same-length : tie.Need-same-length
 same-length c = search needs
@@ -48,7 +52,7 @@ same-length c = search needs
 returns : tie.Need-returns
 unfolding given shadedByForm
 returns c =
-    let s = c .before .before .before .before .before .before .before .before .before .before .before .before .before .before .before .before in
+    let s = c .before .before .before .before .before .before .before .before .before .before .before .before .before .before .before .before .before in
     let l : isLit (blockForm (s .args .block .now)) ≡ true = sym (ap isLit (c .before .before .before .before .before .before .before .before .before .before .form .ensures)) ∙ sym (c .before .before .before .before .before .before .before .before .before .is-lit .ensures) ∙ c .before .before .before .before .before .before .before .before .if1 .taken in
     rw l (ap (shaded 0) (c .before .before .shade-each .ensures))
 
@@ -58,7 +62,7 @@ is-off-requires c κs = search needs
 returns-2 : tie.Need-returns-2
 unfolding given shadedByForm
 returns-2 c =
-    let s = c .before .before .before .before .before .before .before .before .before .before in
+    let s = c .before .before .before .before .before .before .before .before .before .before .before in
     let b = s .args .block .now in
     let f = c .before .before .before .before .form .ensures in
     let l : isLit (blockForm b) ≡ false = sym (ap isLit f) ∙ sym (c .before .before .before .is-lit .ensures) ∙ c .before .before .if1 .left in
@@ -68,7 +72,7 @@ returns-2 c =
 returns-3 : tie.Need-returns-3
 unfolding given shadedByForm
 returns-3 c =
-    let s = c .before .before .before .before .before .before .before .before .before .before in
+    let s = c .before .before .before .before .before .before .before .before .before .before .before in
     let b = s .args .block .now in
     let f = c .before .before .before .before .form .ensures in
     let l : isLit (blockForm b) ≡ false = sym (ap isLit f) ∙ sym (c .before .before .before .is-lit .ensures) ∙ c .before .before .if1 .left in
@@ -79,6 +83,7 @@ pub shade-by-form-spec : {M : Type 1} → statement M
 shade-by-form-spec =
     tie.close
     (tie.spec
+    first-unit-quaternion-requires
     slice-aggregate-form
     form-requires
     is-lit-requires

@@ -1,11 +1,7 @@
 -- `surface::frame_of` meets its contract: each operation and call is the definition's, in its order. Assumes nothing.
-use Rattle.surface.specs.Steps.{frameOf}
 use borrow.Author.Needs.{needs}
 use Rattle.surface.proofs.frame_of.Statement.{statement}
 use Rattle.surface.proofs.frame_of.Tie as tie
-
-unit-quaternion-requires : tie.Need-unit-quaternion-requires
-unit-quaternion-requires c κs = search needs
 
 surface-normal-requires : tie.Need-surface-normal-requires
 surface-normal-requires c κs = search needs
@@ -23,14 +19,12 @@ unit-if-requires : tie.Need-unit-if-requires
 unit-if-requires c κs = search needs
 
 returns : tie.Need-returns
-unfolding frameOf
-returns c = simp (c .unit-if .ensures, c .before .tangent .ensures, c .before .before .surface-tangent .ensures, c .before .before .before .rotate .ensures, c .before .before .before .before .surface-normal .ensures, c .before .before .before .before .before .unit-quaternion .ensures)
+returns c = simp (c .unit-if .ensures, c .before .tangent .ensures, c .before .before .surface-tangent .ensures, c .before .before .before .rotate .ensures, c .before .before .before .before .surface-normal .ensures)
 
 pub frame-of-spec : {M : Type 1} → statement M
 frame-of-spec =
     tie.close
     (tie.spec
-    unit-quaternion-requires
     surface-normal-requires
     rotate-requires
     surface-tangent-requires

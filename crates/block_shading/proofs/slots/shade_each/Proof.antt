@@ -14,22 +14,22 @@ use Rattle.block_shading.proofs.slots.shade_each.Statement.{statement}
 use Rattle.block_shading.proofs.slots.shade_each.Tie as tie
 
 abbrev Inv-loop : tie.InvT-loop
-Inv-loop block block-bytes tables table-bytes fragments fragment-bytes plain answers₀ head count i₀ answers i =
+Inv-loop block block-bytes tables table-bytes fragments fragment-bytes count first plain answers₀ head i₀ answers i =
     (i ≤ count) × (length answers ≡ 8 * count) × (take (8 * i) answers ≡ eightOfEach (blockLighting (words (given block block-bytes))) (given tables table-bytes) i (given fragments fragment-bytes))
 
 abbrev μ-loop : tie.MeasureT-loop
-μ-loop block block-bytes tables table-bytes fragments fragment-bytes plain answers₀ head count i₀ answers i = count - i
+μ-loop block block-bytes tables table-bytes fragments fragment-bytes count first plain answers₀ head i₀ answers i = count - i
 
 head-of-requires : tie.Need-head-of-requires Inv-loop μ-loop
 head-of-requires c κs = search needs
 
-count-requires : tie.Need-count-requires Inv-loop μ-loop
-count-requires c κs = search needs
-
 loop-holds : tie.Need-loop-holds Inv-loop μ-loop
-loop-holds c =
-    let s = c .before .before .before .before .before .before .before .before .before in
-    (omega arith, s .pre .0 .2 ∙ rw (c .count .ensures) refl, sym (none _ _ _))
+loop-holds c = (omega arith, c .before .before .before .before .before .before .before .before .pre .0 .4, sym (none _ _ _))
+
+unit-quaternion-at-requires : tie.Need-unit-quaternion-at-requires Inv-loop μ-loop
+unit-quaternion-at-requires c κs =
+    let s = c .before .before .before .before .before .before .before .before .before .before in
+    (rw (s .pre .0 .2) at (c .loop-test .taken), s .pre .0 .3, s .pre .1 .1 .1 (omega arith))
 
 mul-shade-one : tie.Need-mul-shade-one Inv-loop μ-loop
 mul-shade-one c = search needs
@@ -44,7 +44,7 @@ put-requires : tie.Need-put-requires Inv-loop μ-loop
 put-requires c κs = search needs
 
 add-i : tie.Need-add-i Inv-loop μ-loop
-add-i c = search needs
+add-i c = let s = c .before .before .before .before .before .before .before .before .before .before .before .before .before .before .before .before in omega (arith, s .pre .0 .2, s .pre .0 .3)
 
 loop-less : tie.Need-loop-less Inv-loop μ-loop
 loop-less c = search needs
@@ -52,7 +52,7 @@ loop-less c = search needs
 loop-again : tie.Need-loop-again Inv-loop μ-loop
 loop-again c =
     let s = c .before .before .before .before .before .before .before .before .before .before .before .before .before .before .before .before in
-    let l = c .before .before .before .before .before .before .loop in
+    let l = c .before .before .before .before .before .before .before .loop in
     let k = c .before .before .before .before .shade-one in
     (omega arith, c .before .before .put .kept .0 ∙ l .inv .1, rw (c .before .before .put .ensures) (each-put (blockLighting (words (given (s .args .block .now) (s .args .block-bytes .now)))) (given (s .args .tables .now) (s .args .table-bytes .now)) (l .i) (l .answers) (k .result) (given (s .args .fragments .now) (s .args .fragment-bytes .now)) (omega (arith, l .inv .1)) (k .ensures) (l .inv .2)))
 
@@ -61,10 +61,9 @@ same-length c = search needs
 
 returns : tie.Need-returns Inv-loop μ-loop
 returns c =
-    let s = c .before .before .before .before .before .before .before .before .before .before .before in
+    let s = c .before .before .before .before .before .before .before .before .before .before in
     let l = c .before .loop in
-    let n = c .before .before .count in
-    let e : l .i ≡ length (given (s .args .fragments .now) (s .args .fragment-bytes .now)) / 23 = omega (arith, n .ensures) in
+    let e : l .i ≡ length (given (s .args .fragments .now) (s .args .fragment-bytes .now)) / 23 = omega (arith, s .pre .0 .2) in
     sym (take-all (8 * l .i) (l .answers) (omega (arith, l .inv .1))) ∙ l .inv .2 ∙ rw e refl
 
 pub shade-each-spec : {M : Type 1} → statement M
@@ -74,8 +73,8 @@ shade-each-spec =
     Inv-loop
     μ-loop
     head-of-requires
-    count-requires
     loop-holds
+    unit-quaternion-at-requires
     mul-shade-one
     shade-one-requires
     mul-put

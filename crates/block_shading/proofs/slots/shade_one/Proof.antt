@@ -15,7 +15,7 @@ frame-of-requires : tie.Need-frame-of-requires
 frame-of-requires c κs =
     let s = c .before .before .before .before .before .before in
     let w = words (given (s .args .block .now) (s .args .block-bytes .now)) in
-    (rw (s .pre .1 .0 .1) (head-bump w (s .pre .1 .0 .0)), s .pre .0 .2, s .pre .0 .3)
+    (rw (s .pre .1 .0 .1) (head-bump w (s .pre .1 .0 .0)), s .pre .0 .2, s .pre .0 .3, s .pre .1 .1 .1)
 
 shadow-of-requires : tie.Need-shadow-of-requires
 shadow-of-requires c κs =
@@ -33,7 +33,7 @@ sum-slots-requires : tie.Need-sum-slots-requires
 sum-slots-requires c κs =
     let s = c .before .before .before .before .before .before .before .before .before .before in
     let w = words (given (s .args .block .now) (s .args .block-bytes .now)) in
-    ((s .pre .0 .0, s .pre .0 .1), ((s .pre .1 .0 .0, ap (λ (l : Lighting). l .«light_count») (s .pre .1 .0 .1) ∙ head-count w), s .pre .1 .1))
+    ((s .pre .0 .0, s .pre .0 .1), ((s .pre .1 .0 .0, ap (λ (l : Lighting). l .«light_count») (s .pre .1 .0 .1) ∙ head-count w), s .pre .1 .1 .0))
 
 finished-requires : tie.Need-finished-requires
 finished-requires c κs = search needs
