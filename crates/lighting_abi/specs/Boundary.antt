@@ -32,8 +32,8 @@ writeList f t g pairs d =
 -- ---- the block reader
 
 -- the refusal's number, or 0 where the block is lit and 100 where it is off
-unfoldable pub readNumber : List ℕ → ℕ
-readNumber b = blockRead b .number else cond (blockRead b .reading .on) 0 100
+unfoldable pub blockReadNumber : List ℕ → ℕ
+blockReadNumber b = blockRead b .number else cond (blockRead b .reading .on) 0 100
 
 -- ---- words and bytes
 

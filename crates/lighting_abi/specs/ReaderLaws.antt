@@ -11,15 +11,15 @@ use Rattle.lighting.specs.Lighting.{off, on}
 use Rattle.block.specs.declared.BlockForm.the-variants.{Off, NotWellFormed, NanFree, WithNan}
 use Rattle.block.specs.Block.{words, allZero, wellFormed, blockLighting, blockReading, wordsRefusal, readRefusal, blockRead}
 use Rattle.block.specs.Steps.{nanFree, formOf, blockForm}
-use Rattle.lighting_abi.specs.Boundary.{readNumber}
+use Rattle.lighting_abi.specs.Boundary.{blockReadNumber}
 use Rattle.lighting_abi.specs.Steps.{formNumber}
 
-pub reader-wrong : (b : List ℕ) → (length b ≡ 328 → ⊥) → 6 ≡ readNumber b
-unfolding readNumber blockRead readRefusal blockRefusal
+pub reader-wrong : (b : List ℕ) → (length b ≡ 328 → ⊥) → 6 ≡ blockReadNumber b
+unfolding blockReadNumber blockRead readRefusal blockRefusal
 reader-wrong b n = rw (ne-eqb (length b) 328 n) refl
 
-pub reader-form : (b : List ℕ) → length b ≡ 328 → formNumber (blockForm b) ≡ readNumber b
-unfolding readNumber blockRead readRefusal blockRefusal wordsRefusal blockReading blockForm formOf formNumber
+pub reader-form : (b : List ℕ) → length b ≡ 328 → formNumber (blockForm b) ≡ blockReadNumber b
+unfolding blockReadNumber blockRead readRefusal blockRefusal wordsRefusal blockReading blockForm formOf formNumber
 reader-form b n = rw (eq-eqb (length b) 328 n) (go (allZero (words b)) (wellFormed (words b)) (nanFree (words b)))
   where
     go : (z w p : Bool)

@@ -11,7 +11,7 @@ ghost use Rattle.unit.specs.CacheWords.{cachedReadBlockWords, handOverWords};
 ghost use Rattle.shading.specs.Shade.{shaded};
 ghost use Rattle.block_shading.specs.BlockShading.{shadeFragments};
 ghost use Rattle.capture_calls.specs.Capture.{captured, captures};
-ghost use Rattle.lighting_abi.specs.Boundary.{writeList, readNumber, shadeBytes};
+ghost use Rattle.lighting_abi.specs.Boundary.{writeList, blockReadNumber, shadeBytes};
 use block::BlockForm;
 use block_reading::is_lit;
 use block_reading::is_plain;
@@ -124,7 +124,7 @@ pub extern "C" fn lighting_hand_over(
 // Whether a block is lit, off, or refused.
 #[no_mangle]
 pub extern "C" fn lighting_read_block(block: &[u32]) -> u32
-    ensures { λ r. ⌜ r ≡ readNumber (now (block .entry)) ⌝ }
+    ensures { λ r. ⌜ r ≡ blockReadNumber (now (block .entry)) ⌝ }
 {
     if block.len() != 328 {
         return 6;
