@@ -6,8 +6,8 @@ mod answer_bytes;
 ghost use mathlib.Core.Path.{_≡_};
 ghost use Rattle.tables.specs.Tables.{wrote, write as writeOf, writes, restored, restore as restoreOf, saved as savedAs, save as saveOf};
 ghost use Rattle.block.specs.Block.{packing};
-ghost use Rattle.unit.specs.Unit.{cachedBlock, handed, readBlock};
-ghost use Rattle.unit.specs.CacheWords.{cachedReadBlockWords, handOverWords};
+ghost use Rattle.unit.specs.Unit.{cachedBlock, handed, readPacked};
+ghost use Rattle.unit.specs.CacheWords.{cachedReadPackedWords, handOverWords};
 ghost use Rattle.shading.specs.Shade.{shaded};
 ghost use Rattle.block_shading.specs.BlockShading.{shadeFragments};
 ghost use Rattle.capture_calls.specs.Capture.{captured, captures};
@@ -92,17 +92,17 @@ pub extern "C" fn lighting_save(tables: &[u32], output: &mut [u32]) -> u32
 // The lighting that is set up in the registers, as its block: all zero where it is off.
 #[no_mangle]
 pub extern "C" fn lighting_read(file: &[u32], block: &mut [u32]) -> u32
-    ensures { λ r. ⌜ packing r (now (block .exit)) ≡ readBlock (now (file .entry)) (now (block .entry)) ⌝ }
+    ensures { λ r. ⌜ packing r (now (block .exit)) ≡ readPacked (now (file .entry)) (now (block .entry)) ⌝ }
 {
-    unit::lent::read_block(file, block)
+    unit::lent::read_packed(file, block)
 }
 
 // The same through a cache, decoded again only where the registers that it comes from are others than the kept ones.
 #[no_mangle]
 pub extern "C" fn lighting_cached_read(file: &[u32], cache: &mut [u32], block: &mut [u32]) -> u32
-    ensures { λ r. ⌜ cachedBlock r (now (cache .exit)) (now (block .exit)) ≡ cachedReadBlockWords (now (file .entry)) (now (cache .entry)) (now (block .entry)) ⌝ }
+    ensures { λ r. ⌜ cachedBlock r (now (cache .exit)) (now (block .exit)) ≡ cachedReadPackedWords (now (file .entry)) (now (cache .entry)) (now (block .entry)) ⌝ }
 {
-    unit::lent::cached_read_block(file, cache, block)
+    unit::lent::cached_read_packed(file, cache, block)
 }
 
 // A cached read, whose block the copy takes; and its tables and generation, where the copy's generation is another.

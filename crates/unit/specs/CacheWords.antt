@@ -78,14 +78,14 @@ packsCachedWords n c b =
     if formed (cacheBlock n) then cachedBlock (blockNumber (cacheBlock n)) n (cacheBlock n) else cachedBlock 7 c b
 
 -- refused, nothing changes
-unfoldable pub cachedReadBlockWordsIf : ℕ → List ℕ → List ℕ → List ℕ → CachedBlock (List ℕ)
-cachedReadBlockWordsIf zero f c b = packsCachedWords (refreshedWords f c) c b
-cachedReadBlockWordsIf (suc k) f c b = cachedBlock (suc k) c b
+unfoldable pub cachedReadPackedWordsIf : ℕ → List ℕ → List ℕ → List ℕ → CachedBlock (List ℕ)
+cachedReadPackedWordsIf zero f c b = packsCachedWords (refreshedWords f c) c b
+cachedReadPackedWordsIf (suc k) f c b = cachedBlock (suc k) c b
 
 -- file, cache, block: "1", "6", then 101, then 7
-abbrev pub cachedReadBlockWords : List ℕ → List ℕ → List ℕ → CachedBlock (List ℕ)
-cachedReadBlockWords f c b =
-    cachedReadBlockWordsIf (fileRefusal (length f) else blockRefusal (length b) else cacheRefusal (length c)) f c b
+abbrev pub cachedReadPackedWords : List ℕ → List ℕ → List ℕ → CachedBlock (List ℕ)
+cachedReadPackedWords f c b =
+    cachedReadPackedWordsIf (fileRefusal (length f) else blockRefusal (length b) else cacheRefusal (length c)) f c b
 
 -- ---- The hand-over
 

@@ -25,7 +25,7 @@ use Rattle.unit.specs.Steps.{isFormed}
 use Rattle.unit.specs.HandOverLaws.{long-file}
 use Rattle.unit.specs.DecodedLaws.{decoded-packable, packed-length}
 use Rattle.unit.specs.MeaningLaws.{decoded-formed, anew-block}
-use Rattle.unit.specs.CacheWords.{cacheCount, cacheBlock, cacheRefusal, formed, currentWords, anewWords, refreshedWords, cachedWordsIf, cachedReadWords, blockNumber, packsCachedWords, cachedReadBlockWordsIf, cachedReadBlockWords, takenWords, handOverWordsRead, handOverWordsIf, handOverWords}
+use Rattle.unit.specs.CacheWords.{cacheCount, cacheBlock, cacheRefusal, formed, currentWords, anewWords, refreshedWords, cachedWordsIf, cachedReadWords, blockNumber, packsCachedWords, cachedReadPackedWordsIf, cachedReadPackedWords, takenWords, handOverWordsRead, handOverWordsIf, handOverWords}
 
 -- ---- a block
 
@@ -123,16 +123,16 @@ module _ (f : List ℕ) (long : 474 ≤ length f) (c : List ℕ) where
 -- ---- the cached read and its pack, past the refusals by length
 
 module _ (f c b : List ℕ) (long : 474 ≤ length f) (block : length b ≡ 328) (cache : length c ≡ 468) where
-  past-cached : cachedReadBlockWords f c b ≡ packsCachedWords (refreshedWords f c) c b
-  unfolding cachedReadBlockWordsIf fileRefusal blockRefusal cacheRefusal
+  past-cached : cachedReadPackedWords f c b ≡ packsCachedWords (refreshedWords f c) c b
+  unfolding cachedReadPackedWordsIf fileRefusal blockRefusal cacheRefusal
   past-cached = simp (le-leb 474 (length f) long, eq-eqb (length b) 328 block, eq-eqb (length c) cacheCount cache)
 
-  pub cached-refused : formed (cacheBlock (refreshedWords f c)) ≡ false → cachedBlock 7 (refreshedWords f c) b ≡ cachedReadBlockWords f c b
+  pub cached-refused : formed (cacheBlock (refreshedWords f c)) ≡ false → cachedBlock 7 (refreshedWords f c) b ≡ cachedReadPackedWords f c b
   unfolding packsCachedWords
   cached-refused e = sym (past-cached ∙ rw (e, refused-kept f long c e) refl)
 
   pub cached-done : formed (cacheBlock (refreshedWords f c)) ≡ true
-      → cachedBlock (blockNumber (cacheBlock (refreshedWords f c))) (refreshedWords f c) (cacheBlock (refreshedWords f c)) ≡ cachedReadBlockWords f c b
+      → cachedBlock (blockNumber (cacheBlock (refreshedWords f c))) (refreshedWords f c) (cacheBlock (refreshedWords f c)) ≡ cachedReadPackedWords f c b
   unfolding packsCachedWords
   cached-done e = sym (past-cached ∙ rw e refl)
 
@@ -157,15 +157,15 @@ module _ (f t : List ℕ) (g : ℕ) (c b ct : List ℕ) (cg : ℕ) (long : 474 �
   handed-same e n = sym (past-handed ∙ rw (e, eq-eqb g cg n) refl)
 
 -- a cached read and its pack leave the cache that the cached read by itself leaves, which demand 3's lists speak of
-pub reads-alike : (f c b : List ℕ) → length b ≡ 328 → cachedReadBlockWords f c b .cache ≡ cachedReadWords f c .cache
-unfolding cachedReadBlockWordsIf cachedWordsIf packsCachedWords blockRefusal
+pub reads-alike : (f c b : List ℕ) → length b ≡ 328 → cachedReadPackedWords f c b .cache ≡ cachedReadWords f c .cache
+unfolding cachedReadPackedWordsIf cachedWordsIf packsCachedWords blockRefusal
 reads-alike f c b n = rw (eq-eqb (length b) 328 n) (go (fileRefusal (length f)) (cacheRefusal (length c)) refl)
   where
     by : 474 ≤ length f → (x : Bool) → formed (cacheBlock (refreshedWords f c)) ≡ x → cond x (cachedBlock (blockNumber (cacheBlock (refreshedWords f c))) (refreshedWords f c) (cacheBlock (refreshedWords f c))) (cachedBlock 7 c b) .cache ≡ refreshedWords f c
     by long true e = refl
     by long false e = sym (refused-kept f long c e)
 
-    go : (q k : ℕ) → fileRefusal (length f) ≡ q → cachedReadBlockWordsIf (q else 0 else k) f c b .cache ≡ cachedWordsIf (q else k) f c .cache
+    go : (q k : ℕ) → fileRefusal (length f) ≡ q → cachedReadPackedWordsIf (q else 0 else k) f c b .cache ≡ cachedWordsIf (q else k) f c .cache
     go zero zero e = by (long-file (length f) e) (formed (cacheBlock (refreshedWords f c))) refl
     go zero (suc k) e = refl
     go (suc q) k e = refl

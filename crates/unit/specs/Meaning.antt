@@ -10,8 +10,8 @@ use Rattle.lighting.specs.Lighting.{blankLighting, on}
 use Rattle.lighting.specs.declared.OptionalLighting.{OptionalLighting}
 use Rattle.block.specs.Block.{words, blockReading}
 use Rattle.unit.specs.declared.Cache.{Cache}
-use Rattle.unit.specs.Unit.{Cached, cached, cachedRead, CachedBlock, cachedBlock, cachedReadBlock, Handed, handed, handOver}
-use Rattle.unit.specs.CacheWords.{cacheCount, cacheFlag, cacheKept, cacheBlock, formed, cachedReadWords, cachedReadBlockWords, handOverWords}
+use Rattle.unit.specs.Unit.{Cached, cached, cachedRead, CachedBlock, cachedBlock, cachedReadPacked, Handed, handed, handOver}
+use Rattle.unit.specs.CacheWords.{cacheCount, cacheFlag, cacheKept, cacheBlock, formed, cachedReadWords, cachedReadPackedWords, handOverWords}
 
 -- the lighting of a kept block: what it reads as. One that is neither off nor well formed means a lighting that `pack` refuses with 7, as here one
 -- with no light: its "count outside 1–8".
@@ -43,9 +43,9 @@ HandsOverAsMeant =
     (f t : List ℕ) (g : ℕ) (c b ct : List ℕ) (cg : ℕ) → Lendable c → handedAs cacheOf (handOverWords f t g c b ct cg) ≡ handOver f t g (cacheOf c) b ct cg
 
 -- So is a cached read with its pack.
-abbrev pub ReadsBlockAsMeant : Type 0
-ReadsBlockAsMeant =
-    (f c b : List ℕ) → Lendable c → cachedBlockAs cacheOf (cachedReadBlockWords f c b) ≡ cachedReadBlock f (cacheOf c) b
+abbrev pub ReadsPackedAsMeant : Type 0
+ReadsPackedAsMeant =
+    (f c b : List ℕ) → Lendable c → cachedBlockAs cacheOf (cachedReadPackedWords f c b) ≡ cachedReadPacked f (cacheOf c) b
 
 -- So is a cached read by itself, whatever the block holds: it has no 7.
 abbrev pub ReadsAsMeant : Type 0

@@ -18,11 +18,11 @@ use Rattle.block.specs.Block.{words, allZero, zeros, wellFormed, blockReading, 
 use Rattle.block.specs.Claims.{WordsHeld}
 use Rattle.block.specs.ReadLaws.{read-packs, read-accepted}
 use Rattle.unit.specs.declared.Cache.{Cache}
-use Rattle.unit.specs.Unit.{freshCache, cached, current, readAnew, refreshed, cachedReadIf, readNumber, cachedBlock, packsCached, cachedReadBlockIf, handed, handOverRefusal, packable, taken, handOverRead, handOverIf, handOver}
+use Rattle.unit.specs.Unit.{freshCache, cached, current, readAnew, refreshed, cachedReadIf, readNumber, cachedBlock, packsCached, cachedReadPackedIf, handed, handOverRefusal, packable, taken, handOverRead, handOverIf, handOver}
 use Rattle.unit.specs.HandOverLaws.{long-file, hand-over-lengths}
 use Rattle.unit.specs.DecodedLaws.{decoded-packable, decoded-reads, packed-formed, packed-length}
-use Rattle.unit.specs.CacheWords.{blockPlace, cacheCount, cacheFlag, cacheKept, cacheBlock, emptyWords, cacheRefusal, formed, currentWords, anewWords, refreshedWords, cachedWordsIf, cachedReadWords, blockNumber, packsCachedWords, cachedReadBlockWordsIf, takenWords, handOverWordsRead, handOverWordsIf, handOverWords}
-use Rattle.unit.specs.Meaning.{readingOf, cacheOf, cachedAs, cachedBlockAs, handedAs, Lendable, HandsOverAsMeant, ReadsBlockAsMeant, ReadsAsMeant}
+use Rattle.unit.specs.CacheWords.{blockPlace, cacheCount, cacheFlag, cacheKept, cacheBlock, emptyWords, cacheRefusal, formed, currentWords, anewWords, refreshedWords, cachedWordsIf, cachedReadWords, blockNumber, packsCachedWords, cachedReadPackedWordsIf, takenWords, handOverWordsRead, handOverWordsIf, handOverWords}
+use Rattle.unit.specs.Meaning.{readingOf, cacheOf, cachedAs, cachedBlockAs, handedAs, Lendable, HandsOverAsMeant, ReadsPackedAsMeant, ReadsAsMeant}
 
 -- a block that, if it is off or well formed, is packed from its reading
 abbrev PacksBack : List ℕ → Type 0
@@ -194,14 +194,14 @@ module _ (n : List ℕ) (k : Kept n) (c b : List ℕ) where
       go true e = rw (packed-meant (cacheBlock n) (k .back) e, off-as-read (allZero (words (cacheBlock n))) refl e) refl
       go false e = refl
 
-pub reads-block-as-meant : ReadsBlockAsMeant
-unfolding cachedReadBlockWordsIf cachedReadBlockIf
-reads-block-as-meant f c b l = rw (not-refused c (l .long)) (go (fileRefusal (length f)) (blockRefusal (length b)) refl)
+pub reads-packed-as-meant : ReadsPackedAsMeant
+unfolding cachedReadPackedWordsIf cachedReadPackedIf
+reads-packed-as-meant f c b l = rw (not-refused c (l .long)) (go (fileRefusal (length f)) (blockRefusal (length b)) refl)
   where
     k : Kept c
     k = lendable-kept c l
 
-    go : (q r : ℕ) → fileRefusal (length f) ≡ q → cachedBlockAs cacheOf (cachedReadBlockWordsIf (q else r else 0) f c b) ≡ cachedReadBlockIf (q else r) f (cacheOf c) b
+    go : (q r : ℕ) → fileRefusal (length f) ≡ q → cachedBlockAs cacheOf (cachedReadPackedWordsIf (q else r else 0) f c b) ≡ cachedReadPackedIf (q else r) f (cacheOf c) b
     go zero zero e =
         let long : 474 ≤ length f = long-file (length f) e in
         rw (← (refreshed-means f long c)) (packs-meant (refreshedWords f c) (refreshed-leaves f long c Kept k (anew-keeps f long)) c b)

@@ -1,5 +1,5 @@
 -- A unit's cache and the two calls that go through it: the cached read, which is the Rust's `LastLighting::read`, and the hand-over to a copy; and the reads as
--- they cross the C boundary. Definitions only; the contracts of `fresh_cache`, `cached_read`, `hand_over` and `lent::read_block` cite them, those of `lent`'s
+-- they cross the C boundary. Definitions only; the contracts of `fresh_cache`, `cached_read`, `hand_over` and `lent::read_packed` cite them, those of `lent`'s
 -- other calls by way of Meaning.
 use Prim.Native.Nat.{ℕ, zero, suc}
 use mathlib.Core.List.{List}
@@ -70,13 +70,13 @@ unfoldable pub readNumber : OptionalLighting → ℕ
 readNumber d = if d .on then 0 else 100
 
 -- all zero where it is off; a file's reading is never refused with 7 (DecodedLaws: decoded-packable)
-unfoldable pub readBlockIf : ℕ → List ℕ → List ℕ → Packing
-readBlockIf zero f b = packing (readNumber (read f)) (packedReading (read f))
-readBlockIf (suc k) f b = packing (suc k) b
+unfoldable pub readPackedIf : ℕ → List ℕ → List ℕ → Packing
+readPackedIf zero f b = packing (readNumber (read f)) (packedReading (read f))
+readPackedIf (suc k) f b = packing (suc k) b
 
 -- "1" of the read, then "6" of pack. File, block.
-abbrev pub readBlock : List ℕ → List ℕ → Packing
-readBlock f b = readBlockIf (fileRefusal (length f) else blockRefusal (length b)) f b
+abbrev pub readPacked : List ℕ → List ℕ → Packing
+readPacked f b = readPackedIf (fileRefusal (length f) else blockRefusal (length b)) f b
 
 -- not "7 a lighting, made by the caller": it is off, or `pack` accepts it
 unfoldable pub packable : OptionalLighting → Bool
@@ -97,13 +97,13 @@ packsCached n c b =
     if packable (n .decoded) then cachedBlock (readNumber (n .decoded)) n (packedReading (n .decoded))
     else cachedBlock 7 c b
 
-unfoldable pub cachedReadBlockIf : ℕ → List ℕ → Cache → List ℕ → CachedBlock Cache
-cachedReadBlockIf zero f c b = packsCached (refreshed f c) c b
-cachedReadBlockIf (suc k) f c b = cachedBlock (suc k) c b
+unfoldable pub cachedReadPackedIf : ℕ → List ℕ → Cache → List ℕ → CachedBlock Cache
+cachedReadPackedIf zero f c b = packsCached (refreshed f c) c b
+cachedReadPackedIf (suc k) f c b = cachedBlock (suc k) c b
 
 -- "1" of the cached read, "6" of pack, then its 7. File, cache, block.
-abbrev pub cachedReadBlock : List ℕ → Cache → List ℕ → CachedBlock Cache
-cachedReadBlock f c b = cachedReadBlockIf (fileRefusal (length f) else blockRefusal (length b)) f c b
+abbrev pub cachedReadPacked : List ℕ → Cache → List ℕ → CachedBlock Cache
+cachedReadPacked f c b = cachedReadPackedIf (fileRefusal (length f) else blockRefusal (length b)) f c b
 
 -- ---- The hand-over
 

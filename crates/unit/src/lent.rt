@@ -12,8 +12,8 @@ ghost use Prim.Native.Nat.{_≤_};
 ghost use lib.ListN.{length};
 ghost use Rattle.decoding.specs.Read.{read};
 ghost use Rattle.block.specs.Block.{packing as packingAs, packedReading};
-ghost use Rattle.unit.specs.Unit.{cachedBlock, handed, readNumber, readBlock};
-ghost use Rattle.unit.specs.CacheWords.{cacheBlock, formed, currentWords, anewWords, refreshedWords, blockNumber, cachedReadBlockWords, handOverWords};
+ghost use Rattle.unit.specs.Unit.{cachedBlock, handed, readNumber, readPacked};
+ghost use Rattle.unit.specs.CacheWords.{cacheBlock, formed, currentWords, anewWords, refreshedWords, blockNumber, cachedReadPackedWords, handOverWords};
 
 const CACHE_WORDS: usize = 468;
 
@@ -77,8 +77,8 @@ fn refresh(file: &[u32], cache: &mut [u32]) -> bool
 }
 
 // The reading of a file, and its block.
-pub fn read_block(file: &[u32], block: &mut [u32]) -> u32
-    ensures { λ r. ⌜ packingAs r (now (block .exit)) ≡ readBlock (now (file .entry)) (now (block .entry)) ⌝ }
+pub fn read_packed(file: &[u32], block: &mut [u32]) -> u32
+    ensures { λ r. ⌜ packingAs r (now (block .exit)) ≡ readPacked (now (file .entry)) (now (block .entry)) ⌝ }
 {
     if file.len() < 474 {
         return 1;
@@ -103,8 +103,8 @@ fn take_block(cache: &[u32], block: &mut [u32]) -> u32
 }
 
 // The cached read, and the block of its lighting.
-pub fn cached_read_block(file: &[u32], cache: &mut [u32], block: &mut [u32]) -> u32
-    ensures { λ r. ⌜ cachedBlock r (now (cache .exit)) (now (block .exit)) ≡ cachedReadBlockWords (now (file .entry)) (now (cache .entry)) (now (block .entry)) ⌝ }
+pub fn cached_read_packed(file: &[u32], cache: &mut [u32], block: &mut [u32]) -> u32
+    ensures { λ r. ⌜ cachedBlock r (now (cache .exit)) (now (block .exit)) ≡ cachedReadPackedWords (now (file .entry)) (now (cache .entry)) (now (block .entry)) ⌝ }
 {
     if file.len() < 474 {
         return 1;

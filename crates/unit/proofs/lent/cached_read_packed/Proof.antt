@@ -1,4 +1,4 @@
--- `lent::cached_read_block` meets its contract: each wrong length is refused as the definition refuses it, and past them the block is the one that the read
+-- `lent::cached_read_packed` meets its contract: each wrong length is refused as the definition refuses it, and past them the block is the one that the read
 -- leaves (LentLaws: cached-refused, cached-done). Assumes nothing.
 use Prim.Native.Nat.{ℕ}
 use mathlib.Core.Path.{sym, ap, _∙_}
@@ -6,22 +6,22 @@ use mathlib.Core.List.{List}
 use borrow.Author.Tests.{lt-leb, le-leb, eq-eqb, ne-eqb, not-true, not-false}
 use Rattle.refusals.specs.Refusals.{fileRefusal, blockRefusal}
 use Rattle.unit.specs.Unit.{cachedBlock}
-use Rattle.unit.specs.CacheWords.{cacheBlock, formed, cacheRefusal, cachedReadBlockWordsIf}
+use Rattle.unit.specs.CacheWords.{cacheBlock, formed, cacheRefusal, cachedReadPackedWordsIf}
 use Rattle.unit.specs.LentLaws.{cached-refused, cached-done}
 use borrow.Author.Needs.{needs}
-use Rattle.unit.proofs.lent.cached_read_block.Statement.{statement}
-use Rattle.unit.proofs.lent.cached_read_block.Tie as tie
+use Rattle.unit.proofs.lent.cached_read_packed.Statement.{statement}
+use Rattle.unit.proofs.lent.cached_read_packed.Tie as tie
 
 returns : tie.Need-returns
-unfolding cachedReadBlockWordsIf fileRefusal
+unfolding cachedReadPackedWordsIf fileRefusal
 returns c = simp (lt-leb 474 _ (c .if1 .taken))
 
 returns-2 : tie.Need-returns-2
-unfolding cachedReadBlockWordsIf fileRefusal blockRefusal
+unfolding cachedReadPackedWordsIf fileRefusal blockRefusal
 returns-2 c = simp (le-leb 474 _ (c .before .if1 .left), ne-eqb _ 328 (c .if2 .taken))
 
 returns-3 : tie.Need-returns-3
-unfolding cachedReadBlockWordsIf fileRefusal blockRefusal cacheRefusal
+unfolding cachedReadPackedWordsIf fileRefusal blockRefusal cacheRefusal
 returns-3 c = simp (le-leb 474 _ (c .before .before .if1 .left), eq-eqb _ 328 (c .before .if2 .left), ne-eqb _ 468 (c .if3 .taken))
 
 refresh-requires : tie.Need-refresh-requires
@@ -55,8 +55,8 @@ returns-5 c =
     rw (c .before .before .take-block .ensures .1, c .before .before .take-block .ensures .0, r .0)
     (cached-done (a .file .now) (a .cache .now) (a .block .now) (c .before .before .before .before .before .before .before .before .before .before .before .before .if1 .left) (c .before .before .before .before .before .before .before .before .before .before .before .if2 .left) (c .before .before .before .before .before .before .before .before .before .before .if3 .left) (sym (r .1) ∙ not-false _ (c .before .before .before .before .before .if4 .left)))
 
-pub cached-read-block-spec : {M : Type 1} → statement M
-cached-read-block-spec =
+pub cached-read-packed-spec : {M : Type 1} → statement M
+cached-read-packed-spec =
     tie.close
     (tie.spec
     returns
