@@ -11,7 +11,6 @@ ghost use mathlib.Core.Path.{_≡_};
 ghost use Prim.Native.Nat.{_*_, _/_, _<_};
 ghost use lib.ListN.{length};
 ghost use Rattle.shading.specs.Shade.{shaded};
-ghost use Rattle.block.specs.Steps.{blockForm};
 ghost use Rattle.surface.specs.Steps.{unitQuaternion};
 ghost use Rattle.block_shading.specs.BlockShading.{quaternionOf, blockShading, shadeFragments, shadedNumber};
 ghost use Rattle.block_shading.specs.Steps.{isOff, shadedByForm};
@@ -21,6 +20,17 @@ pub enum BlockShading {
     Refused(Refusal),
     Off,
     Done,
+}
+
+// The number of an answer, as a call across the C boundary has it: 0, a refusal's, or 100 for off.
+pub fn shaded_number(answer: BlockShading) -> u32
+    ensures { λ r. ⌜ r ≡ shadedNumber answer ⌝ }
+{
+    match answer {
+        BlockShading::Refused(refusal) => refusals::number(refusal),
+        BlockShading::Off => 100,
+        BlockShading::Done => 0,
+    }
 }
 
 // Whether a block of this form is all zero.

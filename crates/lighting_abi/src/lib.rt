@@ -15,7 +15,6 @@ ghost use Rattle.lighting_abi.specs.Boundary.{writeList, blockReadNumber
 use block::BlockForm;
 use block_reading::is_lit;
 use block_reading::is_plain;
-use block_shading::BlockShading;
 use block_shading::is_off;
 use tables::Written;
 
@@ -197,11 +196,8 @@ pub extern "C" fn lighting_shade_fragments(
 ) -> u32
     ensures { λ r. ⌜ shaded r (now (answers .exit)) ≡ shadeFragments (now (block .entry)) (now (tables .entry)) (now (fragments .entry)) (now (answers .entry)) ⌝ }
 {
-    match block_shading::shade_fragments(block, tables, fragments, answers) {
-        BlockShading::Refused(refusal) => refusals::number(refusal),
-        BlockShading::Off => 100,
-        BlockShading::Done => 0,
-    }
+    let answer = block_shading::shade_fragments(block, tables, fragments, answers);
+    block_shading::shaded_number(answer)
 }
 
 // What a capture prints, at the start of the output; `printed` is how many bytes.

@@ -5,12 +5,11 @@ mod fragments;
 ghost use mathlib.Core.Path.{_≡_};
 ghost use Rattle.shading.specs.Shade.{shaded};
 ghost use Rattle.block.specs.Block.{packing as packingAs};
-ghost use Rattle.block_shading.specs.BlockShading.{blockShading, shadedNumber};
+ghost use Rattle.block_shading.specs.BlockShading.{blockShading};
 ghost use Rattle.unit.specs.Unit.{freshCache, handed};
 ghost use Rattle.structs_abi.specs.Composed.{shadesReading, packsIf, shadeFile, shadeReading, cachedReads};
 ghost use Rattle.structs_abi.specs.HandOvers.{copied as copiedAs, copyOf, handOvers};
 ghost use lib.ListN.{length};
-use block_shading::BlockShading;
 use lighting::OptionalLighting;
 use refusals::Outcome;
 use unit::HandedOver;
@@ -93,11 +92,8 @@ pub extern "C" fn structs_shade_block(
 ) -> u32
     ensures { λ r. ⌜ shaded r (now (answer .exit)) ≡ blockShading (now (block .entry)) (now (tables .entry)) (now (fragment .entry)) (now (answer .entry)) ⌝ }
 {
-    match block_shading::shade_block(block, tables, fragment, answer) {
-        BlockShading::Refused(refusal) => refusals::number(refusal),
-        BlockShading::Off => 100,
-        BlockShading::Done => 0,
-    }
+    let answered = block_shading::shade_block(block, tables, fragment, answer);
+    block_shading::shaded_number(answered)
 }
 
 // The block of a reading, or 100.

@@ -1,12 +1,10 @@
 -- The bits of NaNs: a flag is zero exactly if its test fails. Assumes nothing.
-use Prim.Native.Nat.{ℕ, _+_, _%_, _≤_}
-use native.Mathlib.Omega.{arith}
-use native.Mathlib.Nat.{zero-add}
+use Prim.Native.Nat.{ℕ, _%_}
 use mathlib.Core.Path.{_≡_, refl, sym, ap, _∙_}
 use mathlib.Core.Bool.{Bool, true, false, not, _&&_, _||_}
 use lib.Dec.{eqb, ltb, leb}
 use mir.Val.{boolByte}
-use borrow.Author.Tests.{eqb-true, eqb-false, ne-eqb, le-ltb, lt-ltb, leb-true, leb-false}
+use borrow.Author.Tests.{le-ltb, lt-ltb, leb-true, leb-false}
 use Rattle.block.specs.Block.{isNumber, floatFormed}
 
 flag-zero : (b : Bool) → eqb (boolByte b) 0 ≡ not b

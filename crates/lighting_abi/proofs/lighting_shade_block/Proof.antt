@@ -1,11 +1,9 @@
 -- `lighting_abi::lighting_shade_block` meets its contract: each wrong length is refused as block shading of the words refuses it, and past the lengths the form of
 -- the block's words leads to its answer. Assumes nothing.
-use Prim.Native.Nat.{_/_}
 use native.Mathlib.Omega.{arith}
 use mathlib.Core.List.{[]}
 use mathlib.Core.Path.{_≡_, sym, ap, _∙_}
 use mathlib.Core.Bool.{true, false}
-use lib.ListN.{length}
 use Rattle.sources.specs.Steps.{given}
 use Rattle.block.specs.Steps.{blockForm}
 use Rattle.block_reading.specs.Steps.{isLit, isPlain}

@@ -1,4 +1,5 @@
--- `lighting_abi::lighting_shade_fragments` meets its contract: each case of the answer has its number. Assumes nothing.
+-- `lighting_abi::lighting_shade_fragments` meets its contract. The number is the one that `shaded_number` ensures of the answer which `block_shading::shade_fragments` ensures. Assumes
+-- nothing.
 use borrow.Author.Needs.{needs}
 use Rattle.lighting_abi.proofs.lighting_shade_fragments.Statement.{statement}
 use Rattle.lighting_abi.proofs.lighting_shade_fragments.Tie as tie
@@ -6,48 +7,14 @@ use Rattle.lighting_abi.proofs.lighting_shade_fragments.Tie as tie
 shade-fragments-requires : tie.Need-shade-fragments-requires
 shade-fragments-requires c κs = search needs
 
-enum-known-refusal : tie.Need-enum-known-refusal
-enum-known-refusal c = search needs
-
-number-requires : tie.Need-number-requires
-number-requires c κs = search needs
-
-enum-told : tie.Need-enum-told
-enum-told c = search needs
-
-enum-told-2 : tie.Need-enum-told-2
-enum-told-2 c = search needs
+shaded-number-requires : tie.Need-shaded-number-requires
+shaded-number-requires c κs = search needs
 
 same-length : tie.Need-same-length
 same-length c = search needs
 
 returns : tie.Need-returns
-returns c = rw (c .number .ensures) (rw (c .before .before .refusal .given .1) at (c .before .before .before .before .before .before .shade-fragments .ensures))
-
-same-length-2 : tie.Need-same-length-2
-same-length-2 c = search needs
-
-returns-2 : tie.Need-returns-2
-returns-2 c = rw (c .enum-told .given .1) at (c .before .before .before .before .shade-fragments .ensures)
-
-same-length-3 : tie.Need-same-length-3
-same-length-3 c = search needs
-
-returns-3 : tie.Need-returns-3
-returns-3 c = rw (c .enum-told2 .given .1) at (c .before .before .before .before .shade-fragments .ensures)
+returns c = cc
 
 pub lighting-shade-fragments-spec : {M : Type 1} → statement M
-lighting-shade-fragments-spec =
-    tie.close
-    (tie.spec
-    shade-fragments-requires
-    enum-known-refusal
-    number-requires
-    enum-told
-    enum-told-2
-    same-length
-    returns
-    same-length-2
-    returns-2
-    same-length-3
-    returns-3)
+lighting-shade-fragments-spec = tie.close (tie.spec shade-fragments-requires shaded-number-requires same-length returns)

@@ -2,7 +2,7 @@
 -- after them. Assumes nothing.
 use Prim.Native.Nat.{_-_, _*_, _/_, _≤_}
 use native.Mathlib.Omega.{arith}
-use mathlib.Core.Path.{_≡_, refl, sym, ap, _∙_}
+use mathlib.Core.Path.{_≡_, refl, sym, _∙_}
 use lib.ListN.{length, take}
 use lib.Seq.{take-all}
 use Rattle.sources.specs.Steps.{given}

@@ -1,5 +1,4 @@
 -- `lent::read_packed` meets its contract: each wrong length is refused as the definition refuses it, and past them the reading is put. Assumes nothing.
-use mathlib.Core.Path.{ap, sym, _∙_}
 use borrow.Author.Tests.{lt-leb, le-leb, eq-eqb, ne-eqb}
 use Rattle.refusals.specs.Refusals.{fileRefusal, blockRefusal}
 use Rattle.unit.specs.Unit.{readPackedIf}
