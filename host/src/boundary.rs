@@ -82,36 +82,43 @@ impl Default for Copy {
 }
 
 impl Unit {
+    #[inline]
     pub fn write(&mut self, register: u32, value: u32) -> u32 {
         let (f, t) = (&mut self.file, &mut self.tables);
         unsafe { lighting_write(f.as_mut_ptr(), f.len(), t.as_mut_ptr(), t.len(), &mut self.generation, register, value) }
     }
 
+    #[inline]
     pub fn writes(&mut self, pairs: &[u32], done: &mut u64) -> u32 {
         let (f, t, g) = (&mut self.file, &mut self.tables, &mut self.generation);
         unsafe { lighting_writes(f.as_mut_ptr(), f.len(), t.as_mut_ptr(), t.len(), g, pairs.as_ptr(), pairs.len(), done) }
     }
 
+    #[inline]
     pub fn restore(&mut self, saved: &[u32]) -> u32 {
         let t = &mut self.tables;
         unsafe { lighting_restore(t.as_mut_ptr(), t.len(), &mut self.generation, saved.as_ptr(), saved.len()) }
     }
 
+    #[inline]
     pub fn save(&self, output: &mut [u32]) -> u32 {
         unsafe { lighting_save(self.tables.as_ptr(), self.tables.len(), output.as_mut_ptr(), output.len()) }
     }
 
+    #[inline]
     pub fn cached_read(&mut self, block: &mut [u32]) -> u32 {
         let (f, c) = (&self.file, &mut self.cache);
         unsafe { lighting_cached_read(f.as_ptr(), f.len(), c.as_mut_ptr(), c.len(), block.as_mut_ptr(), block.len()) }
     }
 
+    #[inline]
     pub fn hand_over(&mut self, copy: &mut Copy) -> u32 {
         hand_over(&self.file, &self.tables, self.generation, &mut self.cache, copy)
     }
 }
 
 /// A hand-over from a unit that is lent in parts.
+#[inline]
 pub fn hand_over(file: &[u32], tables: &[u32], generation: u64, cache: &mut [u32], copy: &mut Copy) -> u32 {
     let (b, t) = (&mut copy.block, &mut copy.tables);
     unsafe {
@@ -133,26 +140,31 @@ pub fn hand_over(file: &[u32], tables: &[u32], generation: u64, cache: &mut [u32
 }
 
 /// `lighting_read`, of a file that is lent.
+#[inline]
 pub fn read_file(file: &[u32], block: &mut [u32]) -> u32 {
     unsafe { lighting_read(file.as_ptr(), file.len(), block.as_mut_ptr(), block.len()) }
 }
 
+#[inline]
 pub fn read_block(block: &[u32]) -> u32 {
     unsafe { lighting_read_block(block.as_ptr(), block.len()) }
 }
 
 /// One fragment, all slices as bytes.
+#[inline]
 pub fn shade_block(block: &[u8], tables: &[u8], fragment: &[u8], answer: &mut [u8]) -> u32 {
     let (b, t, f, a) = (block, tables, fragment, answer);
     unsafe { lighting_shade_block(b.as_ptr(), b.len(), t.as_ptr(), t.len(), f.as_ptr(), f.len(), a.as_mut_ptr(), a.len()) }
 }
 
 /// Any number of fragments, with eight words of answers for each.
+#[inline]
 pub fn shade_fragments(block: &[u32], tables: &[u32], fragments: &[u32], answers: &mut [u32]) -> u32 {
     let (b, t, f, a) = (block, tables, fragments, answers);
     unsafe { lighting_shade_fragments(b.as_ptr(), b.len(), t.as_ptr(), t.len(), f.as_ptr(), f.len(), a.as_mut_ptr(), a.len()) }
 }
 
+#[inline]
 pub fn capture(input: &[u8], output: &mut [u8], printed: &mut u64) -> u32 {
     unsafe { lighting_capture(input.as_ptr(), input.len(), output.as_mut_ptr(), output.len(), printed) }
 }

@@ -58,6 +58,7 @@ impl Block {
     }
 
     /// Shades one fragment.
+    #[inline]
     pub fn shade(&self, tables: &TableWords, fragment: &Fragment) -> Colours {
         let mut colours = Colours::default();
         // a block, tables and one fragment with one place for its colours are never refused
@@ -67,6 +68,7 @@ impl Block {
 
     /// Shades many fragments, reading the block once. Refused, `colours` being left as they were, where there are not
     /// as many as fragments ([`WrongFragment`](Refusal::WrongFragment), 9).
+    #[inline]
     pub fn shade_all(&self, tables: &TableWords, fragments: &[Fragment], colours: &mut [Colours]) -> Result<(), Refusal> {
         Refusal::check(raw::shade_fragments(&self.0, tables, fragments, colours))
     }

@@ -70,6 +70,7 @@ impl HardwareCopy {
     }
 
     /// Shades one fragment; `None` where the lighting is off.
+    #[inline]
     pub fn shade(&self, fragment: &Fragment) -> Option<Colours> {
         let mut colours = Colours::default();
         // 0 or 100: a hand-over's block is off or well formed, and there is one place for one fragment's colours
@@ -79,6 +80,7 @@ impl HardwareCopy {
 
     /// Shades many fragments, reading the block once. Refused, whether lit or off, where there are not as many colours
     /// as fragments ([`WrongFragment`](Refusal::WrongFragment), 9); `colours` are then left as they were.
+    #[inline]
     pub fn shade_all(&self, fragments: &[Fragment], colours: &mut [Colours]) -> Result<Shaded, Refusal> {
         match raw::shade_fragments(&self.block, &*self.tables, fragments, colours) {
             OFF => Ok(Shaded::Off),

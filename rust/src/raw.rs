@@ -55,32 +55,39 @@ extern "C" {
 // SAFETY, of every call below: each pointer and length are those of one slice, or a reference to one number. A `*mut`
 // comes from a `&mut`, so it overlaps no other argument.
 
+#[inline]
 pub fn write(file: &mut [u32], tables: &mut [u32], generation: &mut u64, register: u32, value: u32) -> u32 {
     unsafe { lighting_write(file.as_mut_ptr(), file.len(), tables.as_mut_ptr(), tables.len(), generation, register, value) }
 }
 
+#[inline]
 pub fn writes(file: &mut [u32], tables: &mut [u32], generation: &mut u64, pairs: &[[u32; 2]], done: &mut u64) -> u32 {
     // a slice has at most `isize::MAX` bytes, so its words can be counted
     let (words, count) = (pairs.as_ptr().cast(), 2 * pairs.len());
     unsafe { lighting_writes(file.as_mut_ptr(), file.len(), tables.as_mut_ptr(), tables.len(), generation, words, count, done) }
 }
 
+#[inline]
 pub fn restore(tables: &mut [u32], generation: &mut u64, saved: &[u32]) -> u32 {
     unsafe { lighting_restore(tables.as_mut_ptr(), tables.len(), generation, saved.as_ptr(), saved.len()) }
 }
 
+#[inline]
 pub fn save(tables: &[u32], output: &mut [u32]) -> u32 {
     unsafe { lighting_save(tables.as_ptr(), tables.len(), output.as_mut_ptr(), output.len()) }
 }
 
+#[inline]
 pub fn read(file: &[u32], block: &mut [u32]) -> u32 {
     unsafe { lighting_read(file.as_ptr(), file.len(), block.as_mut_ptr(), block.len()) }
 }
 
+#[inline]
 pub fn cached_read(file: &[u32], cache: &mut [u32], block: &mut [u32]) -> u32 {
     unsafe { lighting_cached_read(file.as_ptr(), file.len(), cache.as_mut_ptr(), cache.len(), block.as_mut_ptr(), block.len()) }
 }
 
+#[inline]
 pub fn hand_over(
     file: &[u32],
     tables: &[u32],
@@ -108,10 +115,12 @@ pub fn hand_over(
     }
 }
 
+#[inline]
 pub fn read_block(block: &[u32]) -> u32 {
     unsafe { lighting_read_block(block.as_ptr(), block.len()) }
 }
 
+#[inline]
 pub fn shade_block(block: &[u8], tables: &[u8], fragment: &[u8], answer: &mut [u8]) -> u32 {
     unsafe {
         lighting_shade_block(
@@ -127,6 +136,7 @@ pub fn shade_block(block: &[u8], tables: &[u8], fragment: &[u8], answer: &mut [u
     }
 }
 
+#[inline]
 pub fn shade_fragments(block: &[u32], tables: &[u32], fragments: &[Fragment], colours: &mut [Colours]) -> u32 {
     // both types are `repr(C)` over four-byte numbers of which every bit pattern is one, and as long as asserted above
     unsafe {
@@ -143,6 +153,7 @@ pub fn shade_fragments(block: &[u32], tables: &[u32], fragments: &[Fragment], co
     }
 }
 
+#[inline]
 pub fn capture(input: &[u8], output: &mut [u8], printed: &mut u64) -> u32 {
     unsafe { lighting_capture(input.as_ptr(), input.len(), output.as_mut_ptr(), output.len(), printed) }
 }

@@ -60,6 +60,7 @@ impl Unit {
     ///
     /// Refused where the register is too high ([`HighRegister`](Refusal::HighRegister), 3), and where an entry would
     /// change at the last generation ([`LastGeneration`](Refusal::LastGeneration), 4).
+    #[inline]
     pub fn write(&mut self, register: u32, value: u32) -> Result<(), Refusal> {
         Refusal::check(raw::write(&mut *self.registers, &mut *self.tables, &mut self.generation, register, value))
     }
@@ -75,6 +76,7 @@ impl Unit {
     /// assert_eq!((stopped.done, stopped.refusal), (2, Refusal::HighRegister));
     /// assert_eq!(unit.registers()[0x08F], 1);
     /// ```
+    #[inline]
     pub fn write_all(&mut self, writes: &[[u32; 2]]) -> Result<(), Stopped> {
         let mut done = 0;
         let number = raw::writes(&mut *self.registers, &mut *self.tables, &mut self.generation, writes, &mut done);
@@ -150,6 +152,7 @@ impl Unit {
     /// assert!(copy.block().is_some());
     /// # Ok::<(), lighting::Refusal>(())
     /// ```
+    #[inline]
     pub fn hand_over(&mut self, copy: &mut HardwareCopy) -> bool {
         // a new copy has the tables of every unit's generation 0
         if copy.unit.as_ref().map_or(false, |unit| !Arc::ptr_eq(unit, &self.identity)) {

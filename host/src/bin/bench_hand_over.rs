@@ -165,20 +165,24 @@ mod timed {
         let (mut file, mut tables) = (vec![0; 474], Tables::default());
         let (mut unit, mut list_unit) = (Unit::default(), Unit::default());
         let mut theirs = || {
-            for pair in lists.iter().flat_map(|list| list.as_chunks().0) {
-                let [register, value] = black_box(*pair);
-                if is_data(register) {
-                    tables.write(&mut file, value);
-                } else {
-                    file[register as usize] = value;
+            for list in lists {
+                for pair in list.as_chunks().0 {
+                    let [register, value] = black_box(*pair);
+                    if is_data(register) {
+                        tables.write(&mut file, value);
+                    } else {
+                        file[register as usize] = value;
+                    }
                 }
             }
             black_box((&file, &tables));
         };
         let mut one = || {
-            for pair in lists.iter().flat_map(|list| list.as_chunks().0) {
-                let [register, value] = black_box(*pair);
-                assert_eq!(unit.write(register, value), 0);
+            for list in lists {
+                for pair in list.as_chunks().0 {
+                    let [register, value] = black_box(*pair);
+                    assert_eq!(unit.write(register, value), 0);
+                }
             }
             black_box(&unit);
         };
