@@ -1,2 +1,2 @@
-pub mod ZerosLaws
+pub mod OrLaws
 pub mod Steps

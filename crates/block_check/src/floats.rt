@@ -19,7 +19,7 @@ fn nan_bit(n: u32) -> u32
 }
 
 // Four words from `at` on: a NaN's bit into its lane.
-pub(crate) fn with_row(block: &[u32], bytes: &[u8], at: usize, lanes: Lanes) -> Lanes
+pub(crate) fn with_nans(block: &[u32], bytes: &[u8], at: usize, lanes: Lanes) -> Lanes
     requires { ⌜ (length (given (now block) (now bytes)) ≡ 328) × (at + 4 ≤ 328) ⌝ }
     ensures { λ r. ⌜ clear r ≡ (clear lanes && numbers (words (given (now (block .entry)) (now (bytes .entry)))) at 4) ⌝ }
 {
@@ -32,14 +32,14 @@ pub(crate) fn with_row(block: &[u32], bytes: &[u8], at: usize, lanes: Lanes) -> 
 }
 
 // The eight rows of the light from `at` on that have its floats; the ninth has its flags and its number.
-pub(crate) fn with_rows(block: &[u32], bytes: &[u8], at: usize, before: Lanes) -> Lanes
+pub(crate) fn with_nans_of_light(block: &[u32], bytes: &[u8], at: usize, before: Lanes) -> Lanes
     requires { ⌜ (length (given (now block) (now bytes)) ≡ 328) × (at + 36 ≤ 328) ⌝ }
     ensures { λ r. ⌜ clear r ≡ (clear before && numbers (words (given (now (block .entry)) (now (bytes .entry)))) at 32) ⌝ }
 {
     let mut lanes = before;
     let mut row = 0;
     while row < 8 {
-        lanes = with_row(block, bytes, at + 4 * row, lanes);
+        lanes = with_nans(block, bytes, at + 4 * row, lanes);
         row += 1;
     }
     lanes

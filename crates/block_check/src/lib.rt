@@ -10,7 +10,7 @@ mod zeros;
 
 use crate::floats::floats_form;
 use crate::head::head_formed;
-use crate::lights::lights_of;
+use crate::lights::lights_found;
 use crate::zeros::are_zero;
 use crate::zeros::unused_are_zero;
 use block::BlockForm;
@@ -53,10 +53,10 @@ fn lit_form(block: &[u32], bytes: &[u8]) -> BlockForm
     if !head_formed(block, bytes) {
         return BlockForm::NotWellFormed;
     }
-    let lights = lights_of(block, bytes, count);
-    if !lights::are_formed(lights) {
+    let found = lights_found(block, bytes, count);
+    if !lights::are_formed(found) {
         return BlockForm::NotWellFormed;
     }
-    let nans = lights.nans;
+    let nans = found.nans;
     floats_form(block, bytes, count, lanes::are_clear(nans))
 }

@@ -1,7 +1,7 @@
 // The lit slots of a block: each light's padding, flags, number, the words of a missing distance, and its NaNs. What the words of all of them say is put
 // together by OR, with no branch for a light.
-use crate::floats::with_row;
-use crate::floats::with_rows;
+use crate::floats::with_nans;
+use crate::floats::with_nans_of_light;
 use crate::lanes;
 use crate::lanes::Lanes;
 use block::slot_at;
@@ -65,7 +65,7 @@ fn with_light(block: &[u32], bytes: &[u8], at: usize, found: Found) -> Found
     ensures { λ r. ⌜ (foundFormed r ≡ (foundFormed found && lightFormed (fromOf (words (given (now (block .entry)) (now (bytes .entry)))) at))) × (clear (r .nans) ≡ (clear (found .nans) && numbers (words (given (now (block .entry)) (now (bytes .entry)))) at 32)) ⌝ }
 {
     let before = found.nans;
-    let nans = with_rows(block, bytes, at, before);
+    let nans = with_nans_of_light(block, bytes, at, before);
     let flags = word(block, bytes, at + 32);
     Found {
         nans,
@@ -82,11 +82,11 @@ pub(crate) fn are_formed(found: Found) -> bool
 }
 
 // The lit slots, and the NaNs of the global ambient before them. The loop ends inside: so the compiler takes a row of four words at once, and not four lights.
-pub(crate) fn lights_of(block: &[u32], bytes: &[u8], count: usize) -> Found
+pub(crate) fn lights_found(block: &[u32], bytes: &[u8], count: usize) -> Found
     requires { ⌜ (length (given (now block) (now bytes)) ≡ 328) × (count ≤ 8) ⌝ }
     ensures { λ r. ⌜ (foundFormed r ≡ lightsFormed (words (given (now (block .entry)) (now (bytes .entry)))) count) × (foundFormed r ≡ true → clear (r .nans) ≡ numbers (words (given (now (block .entry)) (now (bytes .entry)))) 36 (4 + 36 * count)) ⌝ }
 {
-    let nans = with_row(block, bytes, 36, lanes::none());
+    let nans = with_nans(block, bytes, 36, lanes::none());
     let mut found = Found {
         nans,
         zeros: 0,

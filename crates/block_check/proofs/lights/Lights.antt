@@ -15,7 +15,7 @@ use Rattle.block.specs.WordLaws.{small-number, zero-at}
 use Rattle.block_check.specs.declared.lanes.Lanes.{Lanes}
 use Rattle.block_check.specs.declared.lights.Found.{Found}
 use Rattle.block_check.specs.Steps.{lightPadded, lightFormed, foundFormed, numbers}
-use Rattle.block_check.specs.ZerosLaws.{or-more, or-below, across-three, each-more}
+use Rattle.block_check.specs.OrLaws.{or-more, or-below, across-three, each-more}
 use Rattle.block_check.proofs.Shape.{light-parts, light-end}
 
 -- x and y are the flags and the number of a light's words v; p and m are zero exactly if its padding and its missing distance are

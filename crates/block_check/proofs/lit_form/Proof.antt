@@ -32,8 +32,8 @@ returns-2 c =
     by-head (words (given (s .args .block .now) (s .args .bytes .now))) _ (c .before .before .before .before .word .ensures) (s .pre .1) (s .pre .2)
     _ (c .before .before .before .unused-are-zero .ensures) (c .before .before .if1 .left) _ (c .before .head-formed .ensures) (c .if2 .taken)
 
-lights-of-requires : tie.Need-lights-of-requires
-lights-of-requires c κs = search needs
+lights-found-requires : tie.Need-lights-found-requires
+lights-found-requires c κs = search needs
 
 are-formed-requires : tie.Need-are-formed-requires
 are-formed-requires c κs = search needs
@@ -42,7 +42,7 @@ returns-3 : tie.Need-returns-3
 returns-3 c =
     let s = c .before .before .before .before .before .before .before .before .before .before in
     by-lights (words (given (s .args .block .now) (s .args .bytes .now))) _ (c .before .before .before .before .before .before .before .word .ensures) (s .pre .1) (s .pre .2)
-    _ (c .before .before .before .before .before .before .unused-are-zero .ensures) (c .before .before .before .before .before .if1 .left) _ (c .before .before .before .before .head-formed .ensures) (c .before .before .before .if2 .left) _ (c .before .are-formed .ensures ∙ c .before .before .lights-of .ensures .0) (c .if3 .taken)
+    _ (c .before .before .before .before .before .before .unused-are-zero .ensures) (c .before .before .before .before .before .if1 .left) _ (c .before .before .before .before .head-formed .ensures) (c .before .before .before .if2 .left) _ (c .before .are-formed .ensures ∙ c .before .before .lights-found .ensures .0) (c .if3 .taken)
 
 are-clear-requires : tie.Need-are-clear-requires
 are-clear-requires c κs = search needs
@@ -50,14 +50,14 @@ are-clear-requires c κs = search needs
 floats-form-requires : tie.Need-floats-form-requires
 floats-form-requires c κs =
     let s = c .before .before .before .before .before .before .before .before .before .before .before .before in
-    (s .pre .0, rw (c .before .before .before .before .before .before .before .before .before .word .ensures) (s .pre .2), c .are-clear .ensures ∙ c .before .before .before .before .lights-of .ensures .1 (sym (c .before .before .before .are-formed .ensures) ∙ not-false (c .before .before .before .are-formed .result) (c .before .before .if3 .left)))
+    (s .pre .0, rw (c .before .before .before .before .before .before .before .before .before .word .ensures) (s .pre .2), c .are-clear .ensures ∙ c .before .before .before .before .lights-found .ensures .1 (sym (c .before .before .before .are-formed .ensures) ∙ not-false (c .before .before .before .are-formed .result) (c .before .before .if3 .left)))
 
 returns-4 : tie.Need-returns-4
 returns-4 c =
     let s = c .before .before .before .before .before .before .before .before .before .before .before .before .before in
     c .floats-form .ensures
     ∙ by-shape (words (given (s .args .block .now) (s .args .bytes .now))) _ (c .before .before .before .before .before .before .before .before .before .before .word .ensures) (s .pre .1) (s .pre .2)
-    _ (c .before .before .before .before .before .before .before .before .before .unused-are-zero .ensures) (c .before .before .before .before .before .before .before .before .if1 .left) _ (c .before .before .before .before .before .before .before .head-formed .ensures) (c .before .before .before .before .before .before .if2 .left) _ (c .before .before .before .before .are-formed .ensures ∙ c .before .before .before .before .before .lights-of .ensures .0) (c .before .before .before .if3 .left)
+    _ (c .before .before .before .before .before .before .before .before .before .unused-are-zero .ensures) (c .before .before .before .before .before .before .before .before .if1 .left) _ (c .before .before .before .before .before .before .before .head-formed .ensures) (c .before .before .before .before .before .before .if2 .left) _ (c .before .before .before .before .are-formed .ensures ∙ c .before .before .before .before .before .lights-found .ensures .0) (c .before .before .before .if3 .left)
 
 pub lit-form-spec : {M : Type 1} → statement M
 lit-form-spec =
@@ -69,7 +69,7 @@ lit-form-spec =
     returns
     head-formed-requires
     returns-2
-    lights-of-requires
+    lights-found-requires
     are-formed-requires
     returns-3
     are-clear-requires

@@ -9,7 +9,7 @@ use borrow.Author.Needs.{needs}
 use Rattle.sources.specs.Steps.{given}
 use Rattle.lighting.specs.Forms.{every}
 use Rattle.block.specs.Block.{words, floatFormed}
-use Rattle.block_check.specs.ZerosLaws.{or-more}
+use Rattle.block_check.specs.OrLaws.{or-more}
 use Rattle.block_check.proofs.floats.odd_nans.Statement.{statement}
 use Rattle.block_check.proofs.floats.odd_nans.Tie as tie
 

@@ -1,5 +1,5 @@
 -- `lanes::are_clear` meets its contract: the OR of four words is zero exactly if each is. Assumes nothing.
-use Rattle.block_check.specs.ZerosLaws.{all-clear}
+use Rattle.block_check.specs.OrLaws.{all-clear}
 use Rattle.block_check.proofs.lanes.are_clear.Statement.{statement}
 use Rattle.block_check.proofs.lanes.are_clear.Tie as tie
 

@@ -2,7 +2,7 @@
 use Prim.Native.Nat.{_/_, _%_}
 use mathlib.Core.Path.{refl}
 use borrow.Author.Tests.{eq-eqb, ne-eqb}
-use Rattle.block_check.specs.ZerosLaws.{is-zero, or-more}
+use Rattle.block_check.specs.OrLaws.{is-zero, or-more}
 use borrow.Author.Needs.{needs}
 use Rattle.block_check.proofs.lights.missing.Statement.{statement}
 use Rattle.block_check.proofs.lights.missing.Tie as tie

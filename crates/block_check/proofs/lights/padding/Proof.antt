@@ -1,7 +1,7 @@
 -- `lights::padding` meets its contract: the OR of the words is zero exactly if each is. Assumes nothing.
 use lib.Bits.{bitOr}
 use Rattle.block_check.specs.Steps.{lightPadded}
-use Rattle.block_check.specs.ZerosLaws.{is-zero, or-more}
+use Rattle.block_check.specs.OrLaws.{is-zero, or-more}
 use borrow.Author.Needs.{needs}
 use Rattle.block_check.proofs.lights.padding.Statement.{statement}
 use Rattle.block_check.proofs.lights.padding.Tie as tie

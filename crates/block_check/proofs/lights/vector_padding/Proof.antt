@@ -1,7 +1,7 @@
 -- `lights::vector_padding` meets its contract: the OR of seven words is zero exactly if each is. Assumes nothing.
 use lib.Bits.{bitOr}
 use Rattle.block_check.specs.Steps.{vectorsPadded}
-use Rattle.block_check.specs.ZerosLaws.{is-zero, or-more}
+use Rattle.block_check.specs.OrLaws.{is-zero, or-more}
 use borrow.Author.Needs.{needs}
 use Rattle.block_check.proofs.lights.vector_padding.Statement.{statement}
 use Rattle.block_check.proofs.lights.vector_padding.Tie as tie

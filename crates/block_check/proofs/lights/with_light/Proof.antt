@@ -6,8 +6,8 @@ use borrow.Author.Needs.{needs}
 use Rattle.block_check.proofs.lights.with_light.Statement.{statement}
 use Rattle.block_check.proofs.lights.with_light.Tie as tie
 
-with-rows-requires : tie.Need-with-rows-requires
-with-rows-requires c κs = search needs
+with-nans-of-light-requires : tie.Need-with-nans-of-light-requires
+with-nans-of-light-requires c κs = search needs
 
 add-word : tie.Need-add-word
 add-word c = search needs
@@ -30,13 +30,13 @@ word-requires-2 c κs = search needs
 returns : tie.Need-returns
 returns c =
     let a = c .before .before .before .before .before .before .before .before .before .before .before .args in
-    (light-more (a .found) (from (words (given (a .block .now) (a .bytes .now))) (a .at)) _ _ _ _ _ (c .before .before .before .before .before .padding .ensures) (c .before .before .before .missing .ensures) (c .before .before .before .before .before .before .word .ensures) (c .before .word2 .ensures), c .before .before .before .before .before .before .before .with-rows .ensures)
+    (light-more (a .found) (from (words (given (a .block .now) (a .bytes .now))) (a .at)) _ _ _ _ _ (c .before .before .before .before .before .padding .ensures) (c .before .before .before .missing .ensures) (c .before .before .before .before .before .before .word .ensures) (c .before .word2 .ensures), c .before .before .before .before .before .before .before .with-nans-of-light .ensures)
 
 pub with-light-spec : {M : Type 1} → statement M
 with-light-spec =
     tie.close
     (tie.spec
-    with-rows-requires
+    with-nans-of-light-requires
     add-word
     word-requires
     padding-requires

@@ -8,7 +8,7 @@ use borrow.Author.Needs.{needs}
 use Rattle.sources.specs.Steps.{given}
 use Rattle.lighting.specs.Forms.{every}
 use Rattle.block.specs.Block.{words, zeros}
-use Rattle.block_check.specs.ZerosLaws.{or-more}
+use Rattle.block_check.specs.OrLaws.{or-more}
 use Rattle.block_check.proofs.zeros.mixed.Statement.{statement}
 use Rattle.block_check.proofs.zeros.mixed.Tie as tie
 

@@ -10,7 +10,7 @@ use Rattle.lighting.specs.Forms.{every}
 use Rattle.lighting.specs.Lighting.{slotOf}
 use Rattle.block.specs.Block.{words, slotAt, zeros}
 use Rattle.block_check.specs.Steps.{clear}
-use Rattle.block_check.specs.ZerosLaws.{zeros-more}
+use Rattle.block_check.specs.OrLaws.{zeros-more}
 use Rattle.block_check.proofs.zeros.unused_are_zero.Statement.{statement}
 use Rattle.block_check.proofs.zeros.unused_are_zero.Tie as tie
 

@@ -3,7 +3,7 @@
 use lib.Dec.{eqb}
 use Rattle.sources.specs.Steps.{given}
 use Rattle.block.specs.Block.{words, zeros}
-use Rattle.block_check.specs.ZerosLaws.{is-zero, row-more}
+use Rattle.block_check.specs.OrLaws.{is-zero, row-more}
 use borrow.Author.Needs.{needs}
 use Rattle.block_check.proofs.zeros.with_row.Statement.{statement}
 use Rattle.block_check.proofs.zeros.with_row.Tie as tie

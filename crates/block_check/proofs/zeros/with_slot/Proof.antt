@@ -8,7 +8,7 @@ use Rattle.sources.specs.Steps.{given}
 use Rattle.lighting.specs.Forms.{every}
 use Rattle.block.specs.Block.{words, zeros}
 use Rattle.block_check.specs.Steps.{clear}
-use Rattle.block_check.specs.ZerosLaws.{then-more}
+use Rattle.block_check.specs.OrLaws.{then-more}
 use Rattle.block_check.proofs.zeros.with_slot.Statement.{statement}
 use Rattle.block_check.proofs.zeros.with_slot.Tie as tie
 

@@ -1,4 +1,4 @@
--- `floats::with_rows` meets its contract. The loop's invariant: the lanes are clear exactly if they were before and each word of the rows that are passed is a number. Assumes nothing.
+-- `floats::with_nans_of_light` meets its contract. The loop's invariant: the lanes are clear exactly if they were before and each word of the rows that are passed is a number. Assumes nothing.
 use Prim.Native.Nat.{_+_, _*_, _≤_, _-_}
 use native.Mathlib.Omega.{arith}
 use mathlib.Core.Path.{_≡_, sym}
@@ -7,9 +7,9 @@ use Rattle.sources.specs.Steps.{given}
 use Rattle.lighting.specs.Forms.{every}
 use Rattle.block.specs.Block.{words, isNumber}
 use Rattle.block_check.specs.Steps.{clear, numbers}
-use Rattle.block_check.specs.ZerosLaws.{then-more}
-use Rattle.block_check.proofs.floats.with_rows.Statement.{statement}
-use Rattle.block_check.proofs.floats.with_rows.Tie as tie
+use Rattle.block_check.specs.OrLaws.{then-more}
+use Rattle.block_check.proofs.floats.with_nans_of_light.Statement.{statement}
+use Rattle.block_check.proofs.floats.with_nans_of_light.Tie as tie
 
 abbrev Inv-loop : tie.InvT-loop
 Inv-loop block bytes at lanes₀ row₀ lanes row = (row ≤ 8) × (clear lanes ≡ (clear lanes₀ && numbers (words (given block bytes)) at (4 * row)))
@@ -21,14 +21,14 @@ loop-holds : tie.Need-loop-holds Inv-loop μ-loop
 unfolding every
 loop-holds c = (omega arith, sym (and-true (clear (c .before .before .args .before))))
 
-mul-with-row : tie.Need-mul-with-row Inv-loop μ-loop
-mul-with-row c = omega arith
+mul-with-nans : tie.Need-mul-with-nans Inv-loop μ-loop
+mul-with-nans c = omega arith
 
-add-with-row : tie.Need-add-with-row Inv-loop μ-loop
-add-with-row c = omega arith
+add-with-nans : tie.Need-add-with-nans Inv-loop μ-loop
+add-with-nans c = omega arith
 
-with-row-requires : tie.Need-with-row-requires Inv-loop μ-loop
-with-row-requires c κs = (c .before .before .before .before .pre .0, omega arith)
+with-nans-requires : tie.Need-with-nans-requires Inv-loop μ-loop
+with-nans-requires c κs = (c .before .before .before .before .pre .0, omega arith)
 
 add-row : tie.Need-add-row Inv-loop μ-loop
 add-row c = omega arith
@@ -41,21 +41,21 @@ loop-again c =
     let a = c .before .before .before .before .before .args in
     let l = c .before .before .loop in
     let e : 4 * (l .row + 1) ≡ 4 * l .row + 4 = omega arith in
-    (omega arith, rw e (then-more isNumber (words (given (a .block .now) (a .bytes .now))) (a .at) (4 * l .row) 4 (clear (a .before)) _ _ (l .inv .1) (c .with-row .ensures)))
+    (omega arith, rw e (then-more isNumber (words (given (a .block .now) (a .bytes .now))) (a .at) (4 * l .row) 4 (clear (a .before)) _ _ (l .inv .1) (c .with-nans .ensures)))
 
 returns : tie.Need-returns Inv-loop μ-loop
 returns c = let e : c .before .loop .row ≡ 8 = omega arith in rw e at (c .before .loop .inv .1)
 
-pub with-rows-spec : {M : Type 1} → statement M
-with-rows-spec =
+pub with-nans-of-light-spec : {M : Type 1} → statement M
+with-nans-of-light-spec =
     tie.close
     (tie.spec
     Inv-loop
     μ-loop
     loop-holds
-    mul-with-row
-    add-with-row
-    with-row-requires
+    mul-with-nans
+    add-with-nans
+    with-nans-requires
     add-row
     loop-less
     loop-again

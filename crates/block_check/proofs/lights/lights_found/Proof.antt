@@ -1,4 +1,4 @@
--- `lights::lights_of` meets its contract. The loop's invariant: what was found is that of the slots before this one, formed exactly if each of them is, and
+-- `lights::lights_found` meets its contract. The loop's invariant: what was found is that of the slots before this one, formed exactly if each of them is, and
 -- then without a NaN's bit exactly if their words are numbers. Assumes nothing.
 use Prim.Native.Nat.{ℕ, _+_, _*_, _≤_, _-_}
 use native.Mathlib.Numerals.{add-one}
@@ -13,8 +13,8 @@ use Rattle.block.specs.Block.{words, from, slotAt}
 use Rattle.block_check.specs.Steps.{lightFormed, lightsFormed, clear, foundFormed, numbers}
 use Rattle.block_check.proofs.lights.Lights.{lights-more}
 use borrow.Author.Needs.{needs}
-use Rattle.block_check.proofs.lights.lights_of.Statement.{statement}
-use Rattle.block_check.proofs.lights.lights_of.Tie as tie
+use Rattle.block_check.proofs.lights.lights_found.Statement.{statement}
+use Rattle.block_check.proofs.lights.lights_found.Tie as tie
 
 -- one slot more
 more : (w : ℕ → ℕ) (s : ℕ) (x : Bool) → x ≡ lightsFormed w s → (x && lightFormed (from w (slotAt (slotOf s)))) ≡ lightsFormed w (s + 1)
@@ -34,12 +34,12 @@ abbrev μ-loop : tie.MeasureT-loop
 none-requires : tie.Need-none-requires Inv-loop μ-loop
 none-requires c κs = search needs
 
-with-row-requires : tie.Need-with-row-requires Inv-loop μ-loop
-with-row-requires c κs = search needs
+with-nans-requires : tie.Need-with-nans-requires Inv-loop μ-loop
+with-nans-requires c κs = search needs
 
 loop-holds : tie.Need-loop-holds Inv-loop μ-loop
 unfolding foundFormed lightsFormed every
-loop-holds c = (omega arith, omega arith, refl, λ h. rw (c .before .none .ensures) at (c .with-row .ensures))
+loop-holds c = (omega arith, omega arith, refl, λ h. rw (c .before .none .ensures) at (c .with-nans .ensures))
 
 returns : tie.Need-returns Inv-loop μ-loop
 returns c =
@@ -78,14 +78,14 @@ returns-2 c =
     let e : l .slot .0 ≡ c .before .before .before .before .before .before .before .args .count = omega arith in
     (rw e at (l .inv .2), rw e at (l .inv .3))
 
-pub lights-of-spec : {M : Type 1} → statement M
-lights-of-spec =
+pub lights-found-spec : {M : Type 1} → statement M
+lights-found-spec =
     tie.close
     (tie.spec
     Inv-loop
     μ-loop
     none-requires
-    with-row-requires
+    with-nans-requires
     loop-holds
     returns
     slot-at-requires

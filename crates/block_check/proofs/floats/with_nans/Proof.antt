@@ -1,12 +1,12 @@
--- `floats::with_row` meets its contract: a lane stays clear exactly if its word is a number, and the four are tested lane by lane or word by word alike. Assumes
+-- `floats::with_nans` meets its contract: a lane stays clear exactly if its word is a number, and the four are tested lane by lane or word by word alike. Assumes
 -- nothing.
 use mathlib.Core.Path.{ap, _∙_}
 use Rattle.sources.specs.Steps.{given}
 use Rattle.block.specs.Block.{words, isNumber}
-use Rattle.block_check.specs.ZerosLaws.{row-more}
+use Rattle.block_check.specs.OrLaws.{row-more}
 use borrow.Author.Needs.{needs}
-use Rattle.block_check.proofs.floats.with_row.Statement.{statement}
-use Rattle.block_check.proofs.floats.with_row.Tie as tie
+use Rattle.block_check.proofs.floats.with_nans.Statement.{statement}
+use Rattle.block_check.proofs.floats.with_nans.Tie as tie
 
 word-requires : tie.Need-word-requires
 word-requires c κs = search needs
@@ -48,8 +48,8 @@ returns c =
     (c .before .before .before .before .before .before .before .before .before .before .nan-bit .ensures ∙ ap isNumber (c .before .before .before .before .before .before .before .before .before .before .before .word .ensures)) (c .before .before .before .before .before .before .before .nan-bit2 .ensures ∙ ap isNumber (c .before .before .before .before .before .before .before .before .word2 .ensures))
     (c .before .before .before .before .nan-bit3 .ensures ∙ ap isNumber (c .before .before .before .before .before .word3 .ensures)) (c .before .nan-bit4 .ensures ∙ ap isNumber (c .before .before .word4 .ensures))
 
-pub with-row-spec : {M : Type 1} → statement M
-with-row-spec =
+pub with-nans-spec : {M : Type 1} → statement M
+with-nans-spec =
     tie.close
     (tie.spec
     word-requires
