@@ -1,11 +1,11 @@
 -- The tables are read in three steps: where (`distance`, `readings`), what the entries there give (`entries`), and what is made of them (`values`).
--- The steps give the values of the lookups: each goes by the same cases. A light that reads no table but its distance table has 1 for every other value.
+-- The steps give the values of the lookups: each goes by the same cases. A light that reads no table but its distance table has 1 for every other value, and no fresnel is applied to it.
 -- Assumes nothing.
 use Prim.Native.Nat.{ℕ, _+_, _<_}
 use native.Mathlib.Omega.{arith}
-use mathlib.Core.Path.{_≡_, refl, ap}
+use mathlib.Core.Path.{_≡_, refl, ap, _∙_}
 use mathlib.Core.List.{List}
-use mathlib.Core.Bool.{Bool, true, false, cond, true≢false}
+use mathlib.Core.Bool.{Bool, true, false, cond, _&&_, _||_, and-false, true≢false}
 use lib.Ieee.{Float}
 use Rattle.flags.specs.FlagsLaws.{neither}
 use Rattle.binary32.specs.Binary32.{float1}
@@ -119,6 +119,21 @@ module _ (tables : List ℕ) where
   unfolding valuesOf
   read-none lookups frame directions light last h r =
       rw (distance-read light (frame .view) h) (values-unread lookups light _ _ last r)
+
+third : (a b c d e f g : Bool) → ((((a || b) || (c || d)) || (e || f)) || g) ≡ false → c ≡ false
+third a b c d e f g h =
+    let s = neither (((a || b) || (c || d)) || (e || f)) g h in
+    let t = neither ((a || b) || (c || d)) (e || f) (s .0) in
+    let u = neither (a || b) (c || d) (t .0) in
+    neither c d (u .1) .0
+
+-- fresnel is not applied to a light that reads none
+pub none-applied : (lookups : LightingLookups) (light : Light) (last : Bool) → readsTables lookups light ≡ false → (last && present (lookups .fresnel)) ≡ false
+unfolding readsTables
+none-applied lookups light last h =
+    ap (λ (b : Bool). last && b)
+    (third (present (lookups .distribution0)) (present (lookups .distribution1)) (present (lookups .fresnel)) (present (lookups .«reflect_red»)) (present (lookups .«reflect_green»)) (present (lookups .«reflect_blue»)) (light .spotlight) h)
+    ∙ and-false last
 
 -- a light's distance is read where the norm of the ray to it says
 pub distance-by : (light : Light) (view : List Float) → distanceReadingBy (light .distance) (light .number) (rayTo light view .norm) ≡ distanceReading light view

@@ -318,24 +318,24 @@ unfoldable pub summedOf : List Float → List Float → Bool → List Float → 
 summedOf sum terms shadowed shadow applied fresnel =
     addedOf sum terms (shadowFor shadowed shadow) (cond applied fresnel (at sum 3))
 
--- both sums with a light's terms
+-- both sums with a light's terms; `applied` says whether fresnel is, to each alpha whose flag is set
 abbrev pub withTerms : Sums → List Float → List Float → Bool → Settings → Bool → Float → Sums
-withTerms sums diffuse specular shadowed settings last fresnel =
+withTerms sums diffuse specular shadowed settings applied fresnel =
     record {
       diffuse =
-          summedOf (sums .diffuse) diffuse (settings .«shadow_primary» && shadowed) (settings .shadow) (last && settings .«fresnel_sets_primary») fresnel;
+          summedOf (sums .diffuse) diffuse (settings .«shadow_primary» && shadowed) (settings .shadow) (applied && settings .«fresnel_primary») fresnel;
       specular =
-          summedOf (sums .specular) specular (settings .«shadow_secondary» && shadowed) (settings .shadow) (last && settings .«fresnel_sets_secondary») fresnel;
+          summedOf (sums .specular) specular (settings .«shadow_secondary» && shadowed) (settings .shadow) (applied && settings .«fresnel_secondary») fresnel;
     }
 
 unfoldable pub withValuesBy : Sums → Light → List Float → Values → Settings → Bool → Float → Sums
-withValuesBy sums light half v settings last facing =
+withValuesBy sums light half v settings applied facing =
     withTerms sums (diffuseOf light facing (v .distance) (v .spot)) (specularOf light half v (settings .«clamp_highlights») facing)
-    (light .shadowed) settings last (v .fresnel)
+    (light .shadowed) settings applied (v .fresnel)
 
 unfoldable pub withValues : Sums → Light → List Float → Directions → Values → Settings → Bool → Sums
-withValues sums light normal directions v settings last =
-    withValuesBy sums light (directions .half) v settings last
+withValues sums light normal directions v settings applied =
+    withValuesBy sums light (directions .half) v settings applied
     (facingOf (light .«two_sided») (dotOf (directions .«light_vector») normal))
 
 -- ---- one light
@@ -345,8 +345,8 @@ unfoldable pub unreadDirections : Light → List Float → Frame → Bool → Di
 unreadDirections light vector frame needed =
     cond (light .geometric0 || light .geometric1) (directionsBy vector frame needed) (record { «light_vector» = vector; half = zeroVector })
 
--- the sums with one light's contribution; `last` is the last slot lit
+-- the sums with one light's contribution; `last` is the last slot lit, where fresnel is applied if there is its lookup
 unfoldable pub stepOf : List ℕ → LightingLookups → Frame → Settings → Bool → Light → Sums → Sums
 stepOf tables lookups frame settings last light sums =
     let directions = directionsOf light frame (lookups .«needs_half») in
-    withValues sums light (frame .normal) directions (valuesOf tables lookups frame directions light last) settings last
+    withValues sums light (frame .normal) directions (valuesOf tables lookups frame directions light last) settings (last && present (lookups .fresnel))

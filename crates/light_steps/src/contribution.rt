@@ -1,5 +1,6 @@
 // A light's contribution to the sums of a fragment.
 ghost use mathlib.Core.Path.{_≡_};
+ghost use mathlib.Core.Bool.{false, cond};
 ghost use Rattle.light_steps.specs.Steps.{unread, shadowFor, addedOf, summedOf, withTerms, withValues};
 use crate::facing::facing_of;
 use crate::terms;
@@ -33,6 +34,14 @@ fn added(sum: [f32; 4], terms: [f32; 3], shadow: [f32; 3], alpha: f32) -> [f32; 
     ]
 }
 
+// What an alpha is after a light. It is taken from two by its place: the compiler would branch on `applied`, which is another in the last slot alone.
+fn alpha_after(applied: bool, before: f32, fresnel: f32) -> f32
+    ensures { λ r. ⌜ r ≡ cond applied fresnel before ⌝ }
+{
+    let alphas = [before, fresnel];
+    alphas[applied as usize]
+}
+
 // A sum with a light's terms. Fresnel takes the place of alpha where it is applied.
 fn summed(
     sum: [f32; 4],
@@ -45,33 +54,29 @@ fn summed(
     ensures { λ r. ⌜ r ≡ summedOf sum terms shadowed shadow applied fresnel ⌝ }
 {
     let factors = shadow_for(shadowed, shadow);
-    if applied {
-        added(sum, terms, factors, fresnel)
-    } else {
-        added(sum, terms, factors, sum[3])
-    }
+    added(sum, terms, factors, alpha_after(applied, sum[3], fresnel))
 }
 
-// Both sums with a light's terms. `last` is the last slot lit. A light that no shadow falls on has a way of its own: its factors are the constant 1, and the
-// compiler leaves the products out.
+// Both sums with a light's terms. `applied` says whether fresnel is. A light that no shadow falls on has a way of its own: its factors are the constant 1, and
+// the compiler leaves the products out.
 fn with_terms(
     sums: Sums,
     diffuse: [f32; 3],
     specular: [f32; 3],
     shadowed: bool,
     settings: Settings,
-    last: bool,
+    applied: bool,
     fresnel: f32,
 ) -> Sums
-    ensures { λ r. ⌜ r ≡ withTerms sums diffuse specular shadowed settings last fresnel ⌝ }
+    ensures { λ r. ⌜ r ≡ withTerms sums diffuse specular shadowed settings applied fresnel ⌝ }
 {
     let shadow = settings.shadow;
     let diffuse_sum = sums.diffuse;
     let specular_sum = sums.specular;
     let primary = both(settings.shadow_primary, shadowed);
     let secondary = both(settings.shadow_secondary, shadowed);
-    let sets_primary = both(last, settings.fresnel_sets_primary);
-    let sets_secondary = both(last, settings.fresnel_sets_secondary);
+    let sets_primary = both(applied, settings.fresnel_primary);
+    let sets_secondary = both(applied, settings.fresnel_secondary);
     if either(primary, secondary) {
         return Sums {
             diffuse: summed(diffuse_sum, diffuse, primary, shadow, sets_primary, fresnel),
@@ -106,9 +111,9 @@ pub(crate) fn with_values(
     directions: Directions,
     values: Values,
     settings: Settings,
-    last: bool,
+    applied: bool,
 ) -> Sums
-    ensures { λ r. ⌜ r ≡ withValues sums light normal directions values settings last ⌝ }
+    ensures { λ r. ⌜ r ≡ withValues sums light normal directions values settings applied ⌝ }
 {
     let light_vector = directions.light_vector;
     let half = directions.half;
@@ -121,13 +126,13 @@ pub(crate) fn with_values(
         specular,
         light.shadowed,
         settings,
-        last,
+        applied,
         values.fresnel,
     )
 }
 
-// The same for a light that reads no table but its distance table: every other value is 1, and the compiler leaves the products out. It would leave them in
-// if this called `with_values`, which is too long to be inlined for two callers: so its lines stand twice.
+// The same for a light that reads no table but its distance table: every other value is 1 and fresnel is not applied, and the compiler leaves the products and
+// the alphas out. It would leave them in if this called `with_values`, which is too long to be inlined for two callers: so its lines stand twice.
 pub(crate) fn with_unread(
     sums: Sums,
     light: Light,
@@ -135,9 +140,8 @@ pub(crate) fn with_unread(
     directions: Directions,
     distance: f32,
     settings: Settings,
-    last: bool,
 ) -> Sums
-    ensures { λ r. ⌜ r ≡ withValues sums light normal directions (unread distance) settings last ⌝ }
+    ensures { λ r. ⌜ r ≡ withValues sums light normal directions (unread distance) settings false ⌝ }
 {
     let values = values::unread(distance);
     let light_vector = directions.light_vector;
@@ -151,7 +155,7 @@ pub(crate) fn with_unread(
         specular,
         light.shadowed,
         settings,
-        last,
+        false,
         values.fresnel,
     )
 }

@@ -10,7 +10,7 @@ mod places;
 mod readings;
 mod terms;
 pub mod types;
-pub mod values;
+mod values;
 
 ghost use mathlib.Core.Path.{_≡_};
 ghost use Prim.Native.Nat.{_<_};
@@ -67,7 +67,7 @@ fn unread_directions(light: Light, vector: [f32; 3], frame: Frame, needed: bool)
     }
 }
 
-// The sums with one light's contribution. `last` is the last slot lit.
+// The sums with one light's contribution. `last` is the last slot lit, where fresnel is applied if there is its lookup.
 // Asks: tables of 12,288 words and a light number below 8, which the caller has looked at once for all its lights and fragments.
 pub fn step(
     tables: &[u32],
@@ -89,6 +89,8 @@ pub fn step(
     let distance = distance_of(tables, bytes, light, ray.norm);
     if values::reads_tables(lookups, light) {
         let directions = surface::light::directions_of(vector, frame, lookups.needs_half);
+        let fresnel = lookups.fresnel;
+        let applied = flags::both(last, values::present(fresnel));
         let values = values_of(
             tables,
             bytes,
@@ -99,9 +101,9 @@ pub fn step(
             light,
             last,
         );
-        contribution::with_values(sums, light, normal, directions, values, settings, last)
+        contribution::with_values(sums, light, normal, directions, values, settings, applied)
     } else {
         let directions = unread_directions(light, vector, frame, lookups.needs_half);
-        contribution::with_unread(sums, light, normal, directions, distance, settings, last)
+        contribution::with_unread(sums, light, normal, directions, distance, settings)
     }
 }

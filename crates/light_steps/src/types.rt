@@ -57,14 +57,14 @@ pub struct Values {
 }
 
 // What the sums take of a lighting: whether highlights are clamped, whether each sum is in the shadow
-// and the shadow itself, and whether fresnel sets each alpha: its flag is set and there is a lookup.
+// and the shadow itself, and each alpha's flag of fresnel.
 pub struct Settings {
     pub clamp_highlights: bool,
     pub shadow_primary: bool,
     pub shadow_secondary: bool,
     pub shadow: [f32; 4],
-    pub fresnel_sets_primary: bool,
-    pub fresnel_sets_secondary: bool,
+    pub fresnel_primary: bool,
+    pub fresnel_secondary: bool,
 }
 
 // Red, green, blue and alpha of the two colours.

@@ -9,7 +9,7 @@ use lighting::Light;
 use lighting::Lookup;
 use lighting::OptionalLookup;
 
-pub fn present(lookup: OptionalLookup) -> bool
+pub(crate) fn present(lookup: OptionalLookup) -> bool
     ensures { λ r. ⌜ r ≡ presentOf lookup ⌝ }
 {
     match lookup {

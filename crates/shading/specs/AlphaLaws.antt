@@ -22,23 +22,23 @@ unfolding quantizedOf clampOf lt ofBits mul toUnsigned
 one = refl
 
 module _ (tables : List ℕ) (lookups : LightingLookups) (frame : Frame) (settings : Settings) (lights : List Light) (count : ℕ) where
-  diffuse-alpha : settings .«fresnel_sets_primary» ≡ false → (k : ℕ) → at (sumsBy tables lookups frame settings lights count k .diffuse) 3 ≡ float1
+  diffuse-alpha : settings .«fresnel_primary» ≡ false → (k : ℕ) → at (sumsBy tables lookups frame settings lights count k .diffuse) 3 ≡ float1
   unfolding sumsBy stepOf withValues withValuesBy summedOf addedOf
   diffuse-alpha h zero = refl
   diffuse-alpha h (suc k) = simp (h, and-false) (diffuse-alpha h k)
 
-  specular-alpha : settings .«fresnel_sets_secondary» ≡ false → (k : ℕ) → at (sumsBy tables lookups frame settings lights count k .specular) 3 ≡ float1
+  specular-alpha : settings .«fresnel_secondary» ≡ false → (k : ℕ) → at (sumsBy tables lookups frame settings lights count k .specular) 3 ≡ float1
   unfolding sumsBy stepOf withValues withValuesBy summedOf addedOf
   specular-alpha h zero = refl
   specular-alpha h (suc k) = simp (h, and-false) (specular-alpha h k)
 
-primary-clear : (l : Lighting) (shadow : List Float) → l .«fresnel_primary» ≡ false → lightingSettings l shadow .«fresnel_sets_primary» ≡ false
+primary-clear : (l : Lighting) (shadow : List Float) → l .«fresnel_primary» ≡ false → lightingSettings l shadow .«fresnel_primary» ≡ false
 unfolding lightingSettings
-primary-clear l shadow h = simp (h, and-false)
+primary-clear l shadow h = h
 
-secondary-clear : (l : Lighting) (shadow : List Float) → l .«fresnel_secondary» ≡ false → lightingSettings l shadow .«fresnel_sets_secondary» ≡ false
+secondary-clear : (l : Lighting) (shadow : List Float) → l .«fresnel_secondary» ≡ false → lightingSettings l shadow .«fresnel_secondary» ≡ false
 unfolding lightingSettings
-secondary-clear l shadow h = simp (h, and-false)
+secondary-clear l shadow h = h
 
 module _ (l : Lighting) (tables : List ℕ) (quaternion view : List Float) (textures : List (List Float)) where
   primary-steps : l .«fresnel_primary» ≡ false → getD (shadeOf l tables quaternion view textures) 3 0 ≡ 255

@@ -107,7 +107,7 @@ module _ (tables : List ℕ) (twoSided : Bool) (a b c d e f : Float) where
 
   fresnel-law : (table : ℕ) (last flag : Bool) (lookup : OptionalLookup) (alpha : Float)
       → cond (last && flag) (mapOr lookup alpha (λ l. valueOf tables twoSided (a ∷ b ∷ c ∷ d ∷ e ∷ f ∷ []) l table)) alpha
-      ≡ cond (last && (present lookup && flag)) (cond last (valueIf tables table lookup twoSided (a ∷ b ∷ c ∷ d ∷ e ∷ f ∷ float0 ∷ float0 ∷ []) float1) float1) alpha
+      ≡ cond ((last && present lookup) && flag) (cond last (valueIf tables table lookup twoSided (a ∷ b ∷ c ∷ d ∷ e ∷ f ∷ float0 ∷ float0 ∷ []) float1) float1) alpha
   unfolding mapOr valueIf present
   fresnel-law table true true Missing alpha = refl
   fresnel-law table true true (Present lookup) alpha = value-law table lookup

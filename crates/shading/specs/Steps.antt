@@ -56,8 +56,8 @@ lightingSettings l shadow =
       «shadow_primary» = primaryOf (l .shadow);
       «shadow_secondary» = secondaryOf (l .shadow);
       shadow = shadow;
-      «fresnel_sets_primary» = present (l .fresnel) && l .«fresnel_primary»;
-      «fresnel_sets_secondary» = present (l .fresnel) && l .«fresnel_secondary»;
+      «fresnel_primary» = l .«fresnel_primary»;
+      «fresnel_secondary» = l .«fresnel_secondary»;
     }
 
 abbrev pub texelOf : List (List Float) → ℕ → List Float

@@ -67,15 +67,13 @@ pub fn settings_of(l: Lighting, shadow: [f32; 4]) -> Settings
     ensures { λ r. ⌜ r ≡ lightingSettings l shadow ⌝ }
 {
     let optional = l.shadow;
-    let fresnel = l.fresnel;
-    let on = light_steps::values::present(fresnel);
     Settings {
         clamp_highlights: l.clamp_highlights,
         shadow_primary: primary_of(optional),
         shadow_secondary: secondary_of(optional),
         shadow,
-        fresnel_sets_primary: flags::both(on, l.fresnel_primary),
-        fresnel_sets_secondary: flags::both(on, l.fresnel_secondary),
+        fresnel_primary: l.fresnel_primary,
+        fresnel_secondary: l.fresnel_secondary,
     }
 }
 

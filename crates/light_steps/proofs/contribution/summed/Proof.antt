@@ -7,30 +7,19 @@ use Rattle.light_steps.proofs.contribution.summed.Tie as tie
 shadow-for-requires : tie.Need-shadow-for-requires
 shadow-for-requires c κs = search needs
 
+array-read-alpha-after : tie.Need-array-read-alpha-after
+array-read-alpha-after c = search needs
+
+alpha-after-requires : tie.Need-alpha-after-requires
+alpha-after-requires c κs = search needs
+
 added-requires : tie.Need-added-requires
 added-requires c κs = search needs
 
-array-read-added : tie.Need-array-read-added
-array-read-added c = search needs
-
-added-requires-2 : tie.Need-added-requires-2
-added-requires-2 c κs = search needs
-
 returns : tie.Need-returns
 unfolding summedOf
-returns c = simp (c .added .ensures, c .before .if1 .taken, c .before .before .shadow-for .ensures)
-
-returns-2 : tie.Need-returns-2
-unfolding summedOf
-returns-2 c = simp (c .added2 .ensures, c .before .if1 .left, c .before .before .shadow-for .ensures)
+returns c = simp (c .added .ensures, c .before .alpha-after .ensures, c .before .before .shadow-for .ensures)
 
 pub summed-spec : {M : Type 1} → statement M
 summed-spec =
-    tie.close
-    (tie.spec
-    shadow-for-requires
-    added-requires
-    array-read-added
-    added-requires-2
-    returns
-    returns-2)
+    tie.close (tie.spec shadow-for-requires array-read-alpha-after alpha-after-requires added-requires returns)

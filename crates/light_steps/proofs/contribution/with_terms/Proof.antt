@@ -12,16 +12,16 @@ use borrow.Author.Needs.{needs}
 use Rattle.light_steps.proofs.contribution.with_terms.Statement.{statement}
 use Rattle.light_steps.proofs.contribution.with_terms.Tie as tie
 
-unshadowed : (sums : Sums) (p q : List Float) (shadowed : Bool) (settings : Settings) (last : Bool) (fresnel : Float)
+unshadowed : (sums : Sums) (p q : List Float) (shadowed : Bool) (settings : Settings) (applied : Bool) (fresnel : Float)
     → (settings .«shadow_primary» && shadowed) ≡ false
     → (settings .«shadow_secondary» && shadowed) ≡ false
     → _≡_ {A = Sums}
     (record {
-      diffuse = summedOf (sums .diffuse) p false (settings .shadow) (last && settings .«fresnel_sets_primary») fresnel;
-      specular = summedOf (sums .specular) q false (settings .shadow) (last && settings .«fresnel_sets_secondary») fresnel;
+      diffuse = summedOf (sums .diffuse) p false (settings .shadow) (applied && settings .«fresnel_primary») fresnel;
+      specular = summedOf (sums .specular) q false (settings .shadow) (applied && settings .«fresnel_secondary») fresnel;
     })
-    (withTerms sums p q shadowed settings last fresnel)
-unshadowed sums p q shadowed settings last fresnel h k = rw (h, k) refl
+    (withTerms sums p q shadowed settings applied fresnel)
+unshadowed sums p q shadowed settings applied fresnel h k = rw (h, k) refl
 
 both-requires : tie.Need-both-requires
 both-requires c κs = search needs
@@ -65,7 +65,7 @@ returns-2 c =
     let n = neither (primary .result) (secondary .result) (sym (e .either .ensures) ∙ c .before .before .if1 .left) in
     simp
     (c .summed4 .ensures, c .before .summed3 .ensures, e .before .both4 .ensures, e .before .before .both3 .ensures)
-    (unshadowed (a .sums) (a .diffuse) (a .specular) (a .shadowed) (a .settings) (a .last) (a .fresnel) (sym (primary .ensures) ∙ n .0) (sym (secondary .ensures) ∙ n .1))
+    (unshadowed (a .sums) (a .diffuse) (a .specular) (a .shadowed) (a .settings) (a .applied) (a .fresnel) (sym (primary .ensures) ∙ n .0) (sym (secondary .ensures) ∙ n .1))
 
 pub with-terms-spec : {M : Type 1} → statement M
 with-terms-spec =

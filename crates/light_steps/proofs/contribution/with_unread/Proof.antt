@@ -1,4 +1,5 @@
--- `contribution::with_unread` meets its contract: each operation and call is the definition's, in its order, with 1 for what is not read. Assumes nothing.
+-- `contribution::with_unread` meets its contract: each operation and call is the definition's, in its order, with 1 for what is not read and fresnel not applied. Assumes
+-- nothing.
 use Rattle.light_steps.specs.Steps.{withValues, withValuesBy}
 use borrow.Author.Needs.{needs}
 use Rattle.light_steps.proofs.contribution.with_unread.Statement.{statement}
