@@ -139,15 +139,13 @@ pub const ARITHMETIC: [Comparison; 12] = [
 
 /// The operations that are compared with the module's own functions.
 #[cfg(oracle)]
-pub const MODULE: [Comparison; 11] = {
+pub const MODULE: [Comparison; 9] = {
     use crate::oracle::access;
     [
         every("half", 16, |i| (word(proved::compare_half(i[0])), word(access::pica_float(i[0], 10, 5)))),
         every("20-bit float", 20, |i| (word(proved::compare_float20(i[0])), word(access::pica_float(i[0], 12, 7)))),
         every("spot component", 13, |i| (word(proved::compare_fixed(i[0])), word(access::fixed(i[0])))),
-        every("colour, red", 30, |i| (word(proved::compare_color(i[0], 0)), word(access::color(i[0])[0]))),
-        every("colour, green", 20, |i| (word(proved::compare_color(i[0], 1)), word(access::color(i[0])[1]))),
-        every("colour, blue", 10, |i| (word(proved::compare_color(i[0], 2)), word(access::color(i[0])[2]))),
+        every("colour, its three fields", 30, |i| components(|at| proved::compare_color(i[0], at), access::color(i[0]))),
         every("upload value and step", 24, |i| {
             let theirs = access::uploaded(i[0]);
             let value = proved::compare_upload_value(i[0]);

@@ -17,6 +17,7 @@ pub mod machine;
 pub mod patterns;
 pub mod structs;
 pub mod tables;
+pub mod timing;
 pub mod units;
 
 /// The module, as it stands in the file that the build was given, with `access` appended.

@@ -5,7 +5,7 @@
 use crate::blocks::{register_file, theirs};
 use crate::boundary::{hand_over, read_file, Copy, Unit, CACHE_WORDS, OFF, WRONG_SIZE};
 use crate::machine::first_of;
-use crate::oracle::LastLighting;
+use crate::oracle::{LastLighting, Lighting};
 use crate::patterns::Random;
 use crate::structs;
 use crate::tables::generated;
@@ -34,6 +34,13 @@ impl TheirCopy {
             self.generation = generation;
         }
     }
+}
+
+/// The module's read of a file whose lighting is on, packed into `block`.
+#[inline]
+pub fn their_read(file: &[u32], block: &mut Vec<u32>) {
+    block.clear();
+    Lighting::read(file).expect("a lighting").pack(block);
 }
 
 /// What was compared, and the first difference.

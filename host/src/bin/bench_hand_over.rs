@@ -21,38 +21,14 @@ mod timed {
     use lighting_host::patterns::Random;
     use lighting_host::structs;
     use lighting_host::tables::{generated, is_data};
+    use lighting_host::timing::{heading, least, line};
     use lighting_host::units::TheirCopy;
     use std::hint::black_box;
-    use std::time::Instant;
 
     const ROUNDS: usize = 300;
     const PAIRS: usize = 200;
     /// A list of writes wraps once through a table's entries.
     const WRITES: usize = 256;
-
-    /// The least ns of each side for each of `calls` calls; the rounds take turns.
-    fn least<const SIDES: usize>(calls: usize, mut sides: [&mut dyn FnMut(); SIDES]) -> [f64; SIDES] {
-        let mut best = [f64::MAX; SIDES];
-        for _ in 0..ROUNDS {
-            for (best, round) in best.iter_mut().zip(&mut sides) {
-                let start = Instant::now();
-                round();
-                *best = best.min(start.elapsed().as_secs_f64() * 1e9 / calls as f64);
-            }
-        }
-        best
-    }
-
-    fn heading(what: &str, beside: &str, ours: &[&str]) {
-        let ours: String = ours.iter().map(|name| format!(" {name:>9} {:>6}", "ratio")).collect();
-        println!("{what:<46} {beside:>9}{ours}");
-    }
-
-    /// What stands beside first, then each of the proved code's with its ratio.
-    fn line(name: &str, best: &[f64]) {
-        let ours: String = best[1..].iter().map(|ours| format!(" {ours:>9.1} {:>6.2}", ours / best[0])).collect();
-        println!("{name:<46} {:>9.1}{ours}", best[0]);
-    }
 
     /// A file whose lighting is on, with so many lights, their parts all there or all missing.
     fn file(lights: u32, all: bool) -> Vec<u32> {
@@ -102,7 +78,7 @@ mod timed {
         let mut by_value = || {
             assert_eq!(structs::hand_overs(black_box(files), &tables, generations, &mut value_copy, PAIRS as u32), 0);
         };
-        let best = least(2 * PAIRS, [&mut theirs, &mut lent, &mut by_value]);
+        let best = least(ROUNDS, 2 * PAIRS, [&mut theirs, &mut lent, &mut by_value]);
         assert!(copy == value_copy, "the copies differ");
         best
     }
@@ -144,7 +120,7 @@ mod timed {
                 assert_eq!(black_box(&mut unit).restore(black_box(&saved)), 0);
             }
         };
-        line("restore", &least(PAIRS, [&mut copied, &mut restored]));
+        line("restore", &least(ROUNDS, PAIRS, [&mut copied, &mut restored]));
         let mut output = vec![0; TABLE_WORDS];
         let mut copied = || {
             for _ in 0..PAIRS {
@@ -156,7 +132,7 @@ mod timed {
                 assert_eq!(unit.save(black_box(&mut output)), 0);
             }
         };
-        line("save", &least(PAIRS, [&mut copied, &mut kept]));
+        line("save", &least(ROUNDS, PAIRS, [&mut copied, &mut kept]));
         assert_eq!(output, saved);
     }
 
@@ -194,7 +170,7 @@ mod timed {
             }
             black_box(&list_unit);
         };
-        let best = least(2 * WRITES, [&mut theirs, &mut one, &mut many]);
+        let best = least(ROUNDS, 2 * WRITES, [&mut theirs, &mut one, &mut many]);
         assert!(unit == list_unit && unit.file == file && unit.tables == table_words(&tables), "the units differ");
         assert_eq!(unit.generation, changes as u64);
         best
