@@ -1,14 +1,14 @@
 -- What the code computes step by step; nobody has to trust it: ReadLaws ties it to the law, Read. Definitions only.
 use Prim.Native.Nat.{ℕ, zero, suc, _+_, _*_, _/_, _^_}
 use mathlib.Core.Bool.{Bool, true, false, not, cond, _&&_, _||_}
-use mathlib.Core.List.{List, [], _∷_}
+use mathlib.Core.List.{List, [], _∷_, _++_}
 use mir.Val.{boolByte}
 use lib.Dec.{eqb, ltb}
-use lib.ListN.{getD, take}
+use lib.ListN.{getD, set, replicate, take}
 use lib.Ieee.{Float}
-use Rattle.fields.specs.Fields.{colourOf, fixedOf, shortFloat}
+use Rattle.fields.specs.Fields.{colourField, colourOf, fixedOf, shortFloat}
 use Rattle.vectors.specs.Vectors.{normalizedOf}
-use Rattle.lighting.specs.Lighting.{blankLight, off, tableDistribution0, tableDistribution1, tableFresnel, tableReflectBlue, tableReflectGreen, tableReflectRed, tableSpotlight}
+use Rattle.lighting.specs.Lighting.{blankLight, off, tableDistribution0, tableDistribution1, tableFresnel, tableReflectBlue, tableReflectGreen, tableReflectRed, tableSpotlight, zeroFloat}
 use Rattle.lighting.specs.declared.Distance.{Distance}
 use Rattle.lighting.specs.declared.Distance.the-variants.{Without, Scaled}
 use Rattle.lighting.specs.declared.Light.{Light}
@@ -27,6 +27,16 @@ use Rattle.decoding.specs.Read.{any, supported, bump, shadow, config, lo
 -- the word at an offset in a light's block
 unfoldable pub lightRegister : List ℕ → LightNumber → ℕ → ℕ
 lightRegister f n offset = registerOf f (regLights + n .0 * 0x10 + offset)
+
+-- the colours of four words, their channels one after another
+unfoldable pub fourColours : ℕ → ℕ → ℕ → ℕ → List Float
+fourColours a b c d = colourOf a ++ colourOf b ++ colourOf c ++ colourOf d
+
+-- the channels once the colours of k of the words are put in
+unfoldable pub coloursTo : List ℕ → ℕ → List Float
+coloursTo ws zero = replicate 12 zeroFloat
+coloursTo ws (suc k) =
+    set (set (set (coloursTo ws k) (3 * k) (colourField (getD ws k 0) 20)) (3 * k + 1) (colourField (getD ws k 0) 10)) (3 * k + 2) (colourField (getD ws k 0) 0)
 
 -- the colour at an offset in a light's block
 unfoldable pub lightColour : List ℕ → LightNumber → ℕ → List Float

@@ -1,7 +1,7 @@
 // The lights that a register file sets up, each in its slot.
 use crate::configuration::configuration;
 use crate::configuration::supported;
-use crate::light_fields::light_color;
+use crate::light_fields::colors;
 use crate::light_fields::light_register;
 use crate::light_fields::position;
 use crate::light_fields::spot;
@@ -49,11 +49,17 @@ fn light(file: &[u32], number: LightNumber) -> Light
 {
     let position = position(file, number);
     let flags = light_register(file, number, 9);
+    let channels = colors(
+        light_register(file, number, 0),
+        light_register(file, number, 1),
+        light_register(file, number, 2),
+        light_register(file, number, 3),
+    );
     Light {
-        specular0: light_color(file, number, 0),
-        specular1: light_color(file, number, 1),
-        diffuse: light_color(file, number, 2),
-        ambient: light_color(file, number, 3),
+        specular0: [channels[0], channels[1], channels[2]],
+        specular1: [channels[3], channels[4], channels[5]],
+        diffuse: [channels[6], channels[7], channels[8]],
+        ambient: [channels[9], channels[10], channels[11]],
         position: position,
         direction: normalized(position),
         spot: spot(file, number),

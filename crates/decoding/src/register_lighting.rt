@@ -2,6 +2,7 @@
 use crate::bump_shadow::bump;
 use crate::bump_shadow::shadow;
 use crate::configuration::configuration;
+use crate::light_fields::colors;
 use crate::lights::lights;
 use crate::needs::any_geometric;
 use crate::needs::any_spotlight;
@@ -13,7 +14,6 @@ use crate::registers::flag;
 use crate::registers::register;
 use crate::slots::light_count;
 use crate::table_lookups::lookups;
-use fields::color;
 use lighting::Lighting;
 ghost use mathlib.Core.Path.{_≡_};
 ghost use Rattle.decoding.specs.Steps.{lightingOf};
@@ -37,10 +37,11 @@ pub(crate) fn lighting(file: &[u32]) -> Lighting
     let spotlit = any_spotlight(lights, count);
     let half = any_geometric(lights, count) | half_input(config, spotlit, tables);
     let view = half | view_input(spotlit, tables);
+    let ambient = colors(register(file, REG_GLOBAL_AMBIENT), 0, 0, 0);
     Lighting {
         lights: lights,
         light_count: count,
-        global_ambient: color(register(file, REG_GLOBAL_AMBIENT)),
+        global_ambient: [ambient[0], ambient[1], ambient[2]],
         config: config,
         distribution0: distribution0,
         distribution1: distribution1,

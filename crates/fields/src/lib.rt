@@ -2,6 +2,7 @@
 pub mod short_floats;
 pub mod upload;
 
+use colour_table::colour_word;
 ghost use mathlib.Core.Path.{_≡_};
 ghost use Prim.Native.Nat.{_<_};
 ghost use lib.Ieee.{binary32, ofInt};
@@ -12,18 +13,20 @@ fn colour_channel(field: u32) -> f32
     requires { ⌜ field < 1024 ⌝ }
     ensures { λ r. ⌜ r ≡ colourChannel field ⌝ }
 {
-    field as f32 / 255.0
+    f32::from_bits(colour_word(field))
 }
 
-// A light colour: red, green and blue.
+// A light colour: red, green and blue. The table is read in this one place, so that the compiler puts it here.
 pub fn color(value: u32) -> [f32; 3]
     ensures { λ r. ⌜ r ≡ colourOf value ⌝ }
 {
-    [
-        colour_channel(value / 0x10_0000 % 0x400),
-        colour_channel(value / 0x400 % 0x400),
-        colour_channel(value % 0x400),
-    ]
+    let mut channels = [0.0; 3];
+    let mut i = 0;
+    while i < 3 {
+        channels[i] = colour_channel((value >> (20 - 10 * i as u32)) % 0x400);
+        i += 1;
+    }
+    channels
 }
 
 // 13 bits as a signed number.

@@ -1,6 +1,7 @@
--- `lights::light` meets its contract. Each field is what the call that makes it ensures. Assumes nothing.
-use Rattle.decoding.specs.Steps.{lightOf}
+-- `lights::light` meets its contract. Each field is what the call that makes it ensures, and each colour three of the channels of the four. Assumes nothing.
 use borrow.Author.Needs.{needs}
+use Rattle.fields.specs.Fields.{colourOf}
+use Rattle.decoding.specs.Steps.{fourColours, lightColour, lightOf}
 use Rattle.decoding.proofs.lights.light.Statement.{statement}
 use Rattle.decoding.proofs.lights.light.Tie as tie
 
@@ -10,17 +11,56 @@ position-requires c κs = search needs
 light-register-requires : tie.Need-light-register-requires
 light-register-requires c κs = search needs
 
-light-color-requires : tie.Need-light-color-requires
-light-color-requires c κs = search needs
+light-register-requires-2 : tie.Need-light-register-requires-2
+light-register-requires-2 c κs = search needs
 
-light-color-requires-2 : tie.Need-light-color-requires-2
-light-color-requires-2 c κs = search needs
+light-register-requires-3 : tie.Need-light-register-requires-3
+light-register-requires-3 c κs = search needs
 
-light-color-requires-3 : tie.Need-light-color-requires-3
-light-color-requires-3 c κs = search needs
+light-register-requires-4 : tie.Need-light-register-requires-4
+light-register-requires-4 c κs = search needs
 
-light-color-requires-4 : tie.Need-light-color-requires-4
-light-color-requires-4 c κs = search needs
+light-register-requires-5 : tie.Need-light-register-requires-5
+light-register-requires-5 c κs = search needs
+
+colors-requires : tie.Need-colors-requires
+colors-requires c κs = search needs
+
+array-read-t13 : tie.Need-array-read-t13
+array-read-t13 c = search needs
+
+array-read-t16 : tie.Need-array-read-t16
+array-read-t16 c = search needs
+
+array-read-t19 : tie.Need-array-read-t19
+array-read-t19 c = search needs
+
+array-read-t23 : tie.Need-array-read-t23
+array-read-t23 c = search needs
+
+array-read-t26 : tie.Need-array-read-t26
+array-read-t26 c = search needs
+
+array-read-t29 : tie.Need-array-read-t29
+array-read-t29 c = search needs
+
+array-read-t33 : tie.Need-array-read-t33
+array-read-t33 c = search needs
+
+array-read-t36 : tie.Need-array-read-t36
+array-read-t36 c = search needs
+
+array-read-t39 : tie.Need-array-read-t39
+array-read-t39 c = search needs
+
+array-read-t43 : tie.Need-array-read-t43
+array-read-t43 c = search needs
+
+array-read-t46 : tie.Need-array-read-t46
+array-read-t46 c = search needs
+
+array-read-t49 : tie.Need-array-read-t49
+array-read-t49 c = search needs
 
 normalized-requires : tie.Need-normalized-requires
 normalized-requires c κs = search needs
@@ -56,15 +96,16 @@ flag-requires-5 : tie.Need-flag-requires-5
 flag-requires-5 c κs = search needs
 
 returns : tie.Need-returns
-unfolding lightOf
+unfolding lightOf lightColour fourColours colourOf
 returns c =
     simp (
-      c .before .before .before .before .before .before .before .before .before .before .before .before .before .before .before .before .position .ensures,
-      c .before .before .before .before .before .before .before .before .before .before .before .before .before .before .before .light-register .ensures,
-      c .before .before .before .before .before .before .before .before .before .before .before .before .before .before .light-color .ensures,
-      c .before .before .before .before .before .before .before .before .before .before .before .before .before .light-color2 .ensures,
-      c .before .before .before .before .before .before .before .before .before .before .before .before .light-color3 .ensures,
-      c .before .before .before .before .before .before .before .before .before .before .before .light-color4 .ensures,
+      c .before .before .before .before .before .before .before .before .before .before .before .before .before .before .before .before .before .position .ensures,
+      c .before .before .before .before .before .before .before .before .before .before .before .before .before .before .before .before .light-register .ensures,
+      c .before .before .before .before .before .before .before .before .before .before .before .before .before .before .before .light-register2 .ensures,
+      c .before .before .before .before .before .before .before .before .before .before .before .before .before .before .light-register3 .ensures,
+      c .before .before .before .before .before .before .before .before .before .before .before .before .before .light-register4 .ensures,
+      c .before .before .before .before .before .before .before .before .before .before .before .before .light-register5 .ensures,
+      c .before .before .before .before .before .before .before .before .before .before .before .colors .ensures,
       c .before .before .before .before .before .before .before .before .before .before .normalized .ensures,
       c .before .before .before .before .before .before .before .before .before .spot .ensures,
       c .before .before .before .before .before .before .before .before .flag .ensures,
@@ -83,10 +124,23 @@ light-spec =
     (tie.spec
     position-requires
     light-register-requires
-    light-color-requires
-    light-color-requires-2
-    light-color-requires-3
-    light-color-requires-4
+    light-register-requires-2
+    light-register-requires-3
+    light-register-requires-4
+    light-register-requires-5
+    colors-requires
+    array-read-t13
+    array-read-t16
+    array-read-t19
+    array-read-t23
+    array-read-t26
+    array-read-t29
+    array-read-t33
+    array-read-t36
+    array-read-t39
+    array-read-t43
+    array-read-t46
+    array-read-t49
     normalized-requires
     spot-requires
     flag-requires

@@ -1,5 +1,7 @@
--- `register_lighting::lighting` meets its contract. Each field is what the call that makes it ensures, and the lights on are the first of the eight. Assumes nothing.
-use Rattle.decoding.specs.Steps.{litLights, needsHalf, needsView, lightingOf}
+-- `register_lighting::lighting` meets its contract. Each field is what the call that makes it ensures, the global ambient the first of four colours,
+-- and the lights on are the first of the eight. Assumes nothing.
+use Rattle.fields.specs.Fields.{colourOf}
+use Rattle.decoding.specs.Steps.{fourColours, litLights, needsHalf, needsView, lightingOf}
 use Rattle.decoding.specs.LightLaws.{count-high}
 use borrow.Author.Needs.{needs}
 use Rattle.decoding.proofs.register_lighting.lighting.Statement.{statement}
@@ -35,8 +37,17 @@ view-input-requires c κs = search needs
 register-requires-2 : tie.Need-register-requires-2
 register-requires-2 c κs = search needs
 
-color-requires : tie.Need-color-requires
-color-requires c κs = search needs
+colors-requires : tie.Need-colors-requires
+colors-requires c κs = search needs
+
+array-read-t24 : tie.Need-array-read-t24
+array-read-t24 c = search needs
+
+array-read-t27 : tie.Need-array-read-t27
+array-read-t27 c = search needs
+
+array-read-t30 : tie.Need-array-read-t30
+array-read-t30 c = search needs
 
 flag-requires : tie.Need-flag-requires
 flag-requires c κs = search needs
@@ -54,7 +65,7 @@ shadow-requires : tie.Need-shadow-requires
 shadow-requires c κs = search needs
 
 returns : tie.Need-returns
-unfolding lightingOf needsHalf needsView litLights
+unfolding lightingOf needsHalf needsView litLights fourColours colourOf
 returns c =
     simp (
       c .before .before .before .before .before .before .before .before .before .before .before .before .before .before .before .before .register .ensures,
@@ -67,7 +78,7 @@ returns c =
       c .before .before .before .before .before .before .before .before .half-input .ensures,
       c .before .before .before .before .before .before .before .view-input .ensures,
       c .before .before .before .before .before .before .register2 .ensures,
-      c .before .before .before .before .before .color .ensures,
+      c .before .before .before .before .before .colors .ensures,
       c .before .before .before .before .flag .ensures,
       c .before .before .before .flag2 .ensures,
       c .before .before .flag3 .ensures,
@@ -89,7 +100,10 @@ lighting-spec =
     half-input-requires
     view-input-requires
     register-requires-2
-    color-requires
+    colors-requires
+    array-read-t24
+    array-read-t27
+    array-read-t30
     flag-requires
     flag-requires-2
     flag-requires-3
