@@ -5,6 +5,29 @@ use Rattle.decoding.specs.Steps.{fourColours, lightColour, lightOf}
 use Rattle.decoding.proofs.lights.light.Statement.{statement}
 use Rattle.decoding.proofs.lights.light.Tie as tie
 
+returns : tie.Need-returns
+unfolding lightOf lightColour fourColours colourOf
+returns c =
+    simp (
+      c .before .before .before .before .before .before .before .before .before .before .before .before .before .before .before .before .before .position .ensures,
+      c .before .before .before .before .before .before .before .before .before .before .before .before .before .before .before .before .light-register .ensures,
+      c .before .before .before .before .before .before .before .before .before .before .before .before .before .before .before .light-register2 .ensures,
+      c .before .before .before .before .before .before .before .before .before .before .before .before .before .before .light-register3 .ensures,
+      c .before .before .before .before .before .before .before .before .before .before .before .before .before .light-register4 .ensures,
+      c .before .before .before .before .before .before .before .before .before .before .before .before .light-register5 .ensures,
+      c .before .before .before .before .before .before .before .before .before .before .before .colors .ensures,
+      c .before .before .before .before .before .before .before .before .before .before .normalized .ensures,
+      c .before .before .before .before .before .before .before .before .before .spot .ensures,
+      c .before .before .before .before .before .before .before .before .flag .ensures,
+      c .before .before .before .before .before .before .before .flag2 .ensures,
+      c .before .before .before .before .before .before .flag3 .ensures,
+      c .before .before .before .before .before .flag4 .ensures,
+      c .before .before .before .before .distance .ensures,
+      c .before .before .before .spotlit .ensures,
+      c .before .before .register .ensures,
+      c .flag5 .ensures,
+    )
+
 position-requires : tie.Need-position-requires
 position-requires c κs = search needs
 
@@ -94,29 +117,6 @@ cast-flag c = search needs
 
 flag-requires-5 : tie.Need-flag-requires-5
 flag-requires-5 c κs = search needs
-
-returns : tie.Need-returns
-unfolding lightOf lightColour fourColours colourOf
-returns c =
-    simp (
-      c .before .before .before .before .before .before .before .before .before .before .before .before .before .before .before .before .before .position .ensures,
-      c .before .before .before .before .before .before .before .before .before .before .before .before .before .before .before .before .light-register .ensures,
-      c .before .before .before .before .before .before .before .before .before .before .before .before .before .before .before .light-register2 .ensures,
-      c .before .before .before .before .before .before .before .before .before .before .before .before .before .before .light-register3 .ensures,
-      c .before .before .before .before .before .before .before .before .before .before .before .before .before .light-register4 .ensures,
-      c .before .before .before .before .before .before .before .before .before .before .before .before .light-register5 .ensures,
-      c .before .before .before .before .before .before .before .before .before .before .before .colors .ensures,
-      c .before .before .before .before .before .before .before .before .before .before .normalized .ensures,
-      c .before .before .before .before .before .before .before .before .before .spot .ensures,
-      c .before .before .before .before .before .before .before .before .flag .ensures,
-      c .before .before .before .before .before .before .before .flag2 .ensures,
-      c .before .before .before .before .before .before .flag3 .ensures,
-      c .before .before .before .before .before .flag4 .ensures,
-      c .before .before .before .before .distance .ensures,
-      c .before .before .before .spotlit .ensures,
-      c .before .before .register .ensures,
-      c .flag5 .ensures,
-    )
 
 pub light-spec : {M : Type 1} → statement M
 light-spec =
