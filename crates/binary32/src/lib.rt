@@ -8,7 +8,7 @@ ghost use Rattle.std.specs.Prelude.{◌≡◌};
 ghost use Rattle.binary32.specs.Binary32.{float_of, word_of};
 
 // A place in a table of 256 entries: the entry, and how far past it the input lies.
-#[derive(Drop)]
+#[derive(Clone, Copy)]
 pub struct Place {
     pub entry: u8,
     pub delta: f32,

@@ -9,7 +9,7 @@ use lighting::{OptionalLighting, Slot};
 use refusals::Outcome;
 
 // What a block's words are. In a NanFree block no word is a NaN's pattern.
-#[derive(Drop)]
+#[derive(Clone, Copy)]
 pub enum BlockForm {
     Off,
     NotWellFormed,
@@ -18,7 +18,7 @@ pub enum BlockForm {
 }
 
 // What reading a block answers: a refusal, beside which the reading is off, or Done and the reading.
-#[derive(Drop)]
+#[derive(Clone, Copy)]
 pub struct BlockRead {
     pub outcome: Outcome,
     pub reading: OptionalLighting,

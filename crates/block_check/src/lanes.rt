@@ -2,7 +2,7 @@
 ghost use Rattle.std.specs.Prelude.{◌≡◌, true};
 ghost use Rattle.block_check.specs.Steps.{clear};
 
-#[derive(Drop)]
+#[derive(Clone, Copy)]
 pub(crate) struct Lanes {
     pub a: u32,
     pub b: u32,

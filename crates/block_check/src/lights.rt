@@ -13,7 +13,7 @@ use lighting::Slot;
 use sources::word;
 
 // What the words of the lit slots have: NaNs, in the lanes of their rows, bits of words that must be zero, flags, and light numbers.
-#[derive(Drop)]
+#[derive(Clone, Copy)]
 pub(crate) struct Found {
     pub nans: Lanes,
     pub zeros: u32,

@@ -13,7 +13,7 @@ use lighting::{
 use sources::word;
 
 // The words before the lookups but the count.
-#[derive(Drop)]
+#[derive(Clone, Copy)]
 struct Options {
     config: u32,
     bump: Bump,

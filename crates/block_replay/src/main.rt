@@ -2,7 +2,7 @@
 use libc::STDOUT_FILENO;
 
 // How many files were replayed, and how many of those differ.
-#[derive(Drop)]
+#[derive(Clone, Copy)]
 struct Count {
     files: u64,
     differ: u64,

@@ -14,7 +14,7 @@ use block_reading::{is_lit, is_plain};
 use refusals::Refusal;
 
 // What block shading answers: a refusal or off, with the answer slice as it was, or Done.
-#[derive(Drop)]
+#[derive(Clone, Copy)]
 pub enum BlockShading {
     Refused(Refusal),
     Off,

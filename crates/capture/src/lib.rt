@@ -57,6 +57,6 @@ pub fn run_capture(input: &[u8], output: &mut [u8]) -> Answer
     if output.len() < size {
         return capture_calls::unprinted(answer);
     }
-    bytes::copy(&room[..size], output);
+    output[..size].copy_from_slice(&room[..size]);
     answer
 }

@@ -11,7 +11,7 @@ use capture_lines::print_fragments;
 use unit::Cache;
 
 // What a unit and its copy hold beside their slices: the unit's generation and cache, and the copy's generation.
-#[derive(Drop)]
+#[derive(Clone, Copy)]
 pub struct Held {
     pub generation: u64,
     pub cache: Cache,
@@ -19,7 +19,7 @@ pub struct Held {
 }
 
 // What bodies leave: what is held afterwards, and the place after what they printed.
-#[derive(Drop)]
+#[derive(Clone, Copy)]
 pub struct Ran {
     pub held: Held,
     pub next: usize,

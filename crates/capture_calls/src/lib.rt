@@ -7,7 +7,7 @@ ghost use Rattle.capture_calls.specs.Capture.{short_output, size_of, number_by, 
 use refusals::Refusal;
 
 // What the call answers.
-#[derive(Drop)]
+#[derive(Clone, Copy)]
 pub enum Answer {
     // the capture was run, and printed so many bytes
     Printed(usize),

@@ -11,7 +11,7 @@ const NUMBERS: u32 = 2;
 const RUN: u32 = 3;
 
 // How many bytes of the capture are there, the place in the list, and how many captures were run.
-#[derive(Drop)]
+#[derive(Clone, Copy)]
 struct Place {
     size: usize,
     next: usize,

@@ -7,7 +7,7 @@ use libc::{STDERR_FILENO, STDOUT_FILENO};
 use short_float_census::Totals;
 
 // What an argument says: a width, or nothing that can be read as one.
-#[derive(Drop)]
+#[derive(Clone, Copy)]
 enum Width {
     Of(u32),
     Unread,

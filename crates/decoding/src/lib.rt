@@ -61,7 +61,7 @@ pub fn decode(file: &[u32]) -> OptionalLighting
 }
 
 // What reading answers: a refused file has no lighting, which is off.
-#[derive(Drop)]
+#[derive(Clone, Copy)]
 pub struct LightingRead {
     pub outcome: Outcome,
     pub decoded: OptionalLighting,

@@ -1,14 +1,14 @@
 // Compares root and floor with published vectors: for each file of data/ how many were compared and how many differ, and each difference.
 use libc::STDOUT_FILENO;
 
-#[derive(Drop)]
+#[derive(Clone, Copy)]
 enum Operation {
     Root,
     Floor,
 }
 
 // How many vectors were compared, and how many of those differ.
-#[derive(Drop)]
+#[derive(Clone, Copy)]
 struct Count {
     compared: u64,
     differ: u64,

@@ -2,7 +2,7 @@
 use lighting::{Lookup, OptionalLookup};
 
 // The lookups of a lighting, and what their inputs need.
-#[derive(Drop)]
+#[derive(Clone, Copy)]
 pub struct LightingLookups {
     pub config: u32,
     pub needs_half: bool,
@@ -16,14 +16,14 @@ pub struct LightingLookups {
 }
 
 // Where a value is read: the table, the entry, and how far past it.
-#[derive(Drop)]
+#[derive(Clone, Copy)]
 pub enum Reading {
     Unread,
     At(u32, u8, f32),
 }
 
 // Where the values of the lookups are read.
-#[derive(Drop)]
+#[derive(Clone, Copy)]
 pub struct Readings {
     pub spot: Reading,
     pub distribution0: Reading,
@@ -35,7 +35,7 @@ pub struct Readings {
 }
 
 // What the entries give there: 1 where none is read.
-#[derive(Drop)]
+#[derive(Clone, Copy)]
 pub struct EntryValues {
     pub distance: f32,
     pub spot: f32,
@@ -48,7 +48,7 @@ pub struct EntryValues {
 }
 
 // What the lookups make of that: each its scale's multiple, 1 where it is missing, but green and blue fall back to red.
-#[derive(Drop)]
+#[derive(Clone, Copy)]
 pub struct Values {
     pub distance: f32,
     pub spot: f32,
@@ -62,7 +62,7 @@ pub struct Values {
 
 // What the sums take of a lighting: whether highlights are clamped, whether each sum is in the shadow
 // and the shadow itself, and each alpha's flag of fresnel.
-#[derive(Drop)]
+#[derive(Clone, Copy)]
 pub struct Settings {
     pub clamp_highlights: bool,
     pub shadow_primary: bool,
@@ -73,7 +73,7 @@ pub struct Settings {
 }
 
 // Red, green, blue and alpha of the two colours.
-#[derive(Drop)]
+#[derive(Clone, Copy)]
 pub struct Sums {
     pub diffuse: [f32; 4],
     pub specular: [f32; 4],

@@ -5,15 +5,15 @@ ghost use Rattle.std.specs.Prelude.{◌≡◌};
 ghost use Rattle.lighting.specs.Lighting.{blank_light, blank_lighting, is_scaled, bump_unit, shadow_unit};
 
 // A slot of the lighting: the first `light_count` of the eight are lit.
-#[derive(Drop)]
+#[derive(Clone, Copy)]
 pub struct Slot(pub usize);
 
 // Which of the eight lights of the registers it is: this, and never the slot, picks a spotlight or distance table.
-#[derive(Drop)]
+#[derive(Clone, Copy)]
 pub struct LightNumber(pub usize);
 
 // How a table is read: the dot product it takes, whether that is taken as its absolute value, and the scale on the result.
-#[derive(Drop)]
+#[derive(Clone, Copy)]
 pub struct Lookup {
     pub input: u32,
     pub absolute: bool,
@@ -21,14 +21,14 @@ pub struct Lookup {
 }
 
 // A lookup that a draw may do without.
-#[derive(Drop)]
+#[derive(Clone, Copy)]
 pub enum OptionalLookup {
     Missing,
     Present(Lookup),
 }
 
 // The tables of a draw; those of the spotlights are read alike, and always have a lookup.
-#[derive(Drop)]
+#[derive(Clone, Copy)]
 pub struct TableLookups {
     pub distribution0: OptionalLookup,
     pub distribution1: OptionalLookup,
@@ -40,13 +40,13 @@ pub struct TableLookups {
 }
 
 // Whether the light's distance table is read, and then its bias and its scale.
-#[derive(Drop)]
+#[derive(Clone, Copy)]
 pub enum Distance {
     Without,
     Scaled(f32, f32),
 }
 
-#[derive(Drop)]
+#[derive(Clone, Copy)]
 pub struct Light {
     pub specular0: [f32; 3],
     pub specular1: [f32; 3],
@@ -68,14 +68,14 @@ pub struct Light {
 }
 
 // The texture unit that holds the normals or the tangents, and of normals whether z is rebuilt.
-#[derive(Drop)]
+#[derive(Clone, Copy)]
 pub enum Bump {
     Flat,
     Normal(usize, bool),
     Tangent(usize),
 }
 
-#[derive(Drop)]
+#[derive(Clone, Copy)]
 pub struct Shadow {
     pub unit: usize,
     pub invert: bool,
@@ -84,13 +84,13 @@ pub struct Shadow {
     pub alpha: bool,
 }
 
-#[derive(Drop)]
+#[derive(Clone, Copy)]
 pub enum OptionalShadow {
     Unshadowed,
     Shadowed(Shadow),
 }
 
-#[derive(Drop)]
+#[derive(Clone, Copy)]
 pub struct Lighting {
     pub lights: [Light; 8],
     pub light_count: usize,
@@ -115,7 +115,7 @@ pub struct Lighting {
 }
 
 // The lighting of a draw, or none: where it is off, the lighting beside the flag is the blank one.
-#[derive(Drop)]
+#[derive(Clone, Copy)]
 pub struct OptionalLighting {
     pub on: bool,
     pub lighting: Lighting,

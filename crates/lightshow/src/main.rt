@@ -7,7 +7,7 @@ use capture_calls::Answer;
 use libc::{STDIN_FILENO, STDOUT_FILENO};
 
 // What reading gives: so many bytes, or a read that failed.
-#[derive(Drop)]
+#[derive(Clone, Copy)]
 enum Input {
     Read(usize),
     Failed,

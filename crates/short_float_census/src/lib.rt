@@ -8,7 +8,7 @@ ghost use Rattle.short_float_census.specs.Census.{totals, counted as counted_of,
 use fields::short_floats::power;
 
 // What a pattern ends as.
-#[derive(Drop)]
+#[derive(Clone, Copy)]
 pub(crate) enum Class {
     Zero,
     Infinity,
@@ -18,7 +18,7 @@ pub(crate) enum Class {
 }
 
 // How many patterns there are of each class.
-#[derive(Drop)]
+#[derive(Clone, Copy)]
 pub struct Totals {
     pub zeros: u32,
     pub infinities: u32,

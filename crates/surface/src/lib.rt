@@ -11,7 +11,7 @@ use lighting::Bump;
 
 // What every light sees of the fragment: the surface's normal and tangent, turned by the quaternion,
 // and the view with its unit vector.
-#[derive(Drop)]
+#[derive(Clone, Copy)]
 pub struct Frame {
     pub normal: [f32; 3],
     pub tangent: [f32; 3],
@@ -20,14 +20,14 @@ pub struct Frame {
 }
 
 // The ray from the fragment to a light: its unit vector, or a directional light's direction, and its norm where something reads that. The two share one root.
-#[derive(Drop)]
+#[derive(Clone, Copy)]
 pub struct Ray {
     pub vector: [f32; 3],
     pub norm: f32,
 }
 
 // The vector toward a light, and the half vector between it and the view.
-#[derive(Drop)]
+#[derive(Clone, Copy)]
 pub struct Directions {
     pub light_vector: [f32; 3],
     pub half: [f32; 3],

@@ -10,7 +10,7 @@ const CALL_WORDS: usize = 9;
 const WRITE: u32 = 1;
 
 // What a call left: its number, 1C5, the generation's low word, the two words of the entry that 1C5 named before it, and the sum of all entries.
-#[derive(Drop)]
+#[derive(Clone, Copy)]
 struct Answer {
     number: u32,
     index: u32,
@@ -21,7 +21,7 @@ struct Answer {
 }
 
 // How many calls were replayed and how many of those differ, and the generation after them.
-#[derive(Drop)]
+#[derive(Clone, Copy)]
 struct Count {
     calls: u64,
     differ: u64,

@@ -11,14 +11,14 @@ use refusals::{Outcome, Refusal};
 pub(crate) const LAST_GENERATION: u64 = 0xFFFF_FFFF_FFFF_FFFF;
 
 // A refusal, or the generation afterwards.
-#[derive(Drop)]
+#[derive(Clone, Copy)]
 pub enum Written {
     Refused(Refusal),
     Done(u64),
 }
 
 // What a list of writes answers: Done, or the refusal of the first write that was refused; how many were made, and the generation after them.
-#[derive(Drop)]
+#[derive(Clone, Copy)]
 pub struct WrittenEach {
     pub outcome: Outcome,
     pub done: usize,

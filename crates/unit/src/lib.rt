@@ -15,7 +15,7 @@ use refusals::Outcome;
 
 // What the last read decoded, and the registers that it came from, which draws mostly keep: comparing those costs less than decoding
 // again. While it isn't filled the rest counts for nothing.
-#[derive(Drop)]
+#[derive(Clone, Copy)]
 pub struct Cache {
     pub filled: bool,
     pub kept: [u32; 139],
@@ -23,7 +23,7 @@ pub struct Cache {
 }
 
 // What a cached read answers: a refusal, with the cache as it was, or Done and the cache, whose lighting is the read one.
-#[derive(Drop)]
+#[derive(Clone, Copy)]
 pub struct CachedRead {
     pub outcome: Outcome,
     pub cache: Cache,
@@ -31,7 +31,7 @@ pub struct CachedRead {
 
 // What a hand-over answers: a refusal, with the cache and the copy's generation as they were, or Done, the cache that the read left and the
 // copy's generation.
-#[derive(Drop)]
+#[derive(Clone, Copy)]
 pub struct HandedOver {
     pub outcome: Outcome,
     pub cache: Cache,

@@ -6,7 +6,7 @@ ghost use Rattle.word_text.specs.Load.{loaded, loaded_as, OfSomeText};
 use libc::STDOUT_FILENO;
 
 // What stands next in a text.
-#[derive(Drop)]
+#[derive(Clone, Copy)]
 enum Next {
     // a word, and the place after it
     Word(u32, usize),
