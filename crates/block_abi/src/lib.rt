@@ -1,5 +1,6 @@
-// Decoding with packing, and the check of a block, under plain names, for the host's comparisons: a library for tests alone.
+// Decoding with packing, and the check of a block, under plain names, for the host's comparisons, which block_abi_c exports: a library for tests alone.
 // Each call returns document 01's number, 0 where it is done and 100 where the lighting is off.
+#![tactic(auto)]
 ghost use Rattle.std.specs.Prelude.{◌≡◌};
 ghost use Rattle.block.specs.Block.{packing as packing_as};
 ghost use Rattle.block_abi.specs.PackFile.{pack_reading, pack_file};
@@ -20,8 +21,7 @@ fn pack_reading(reading: OptionalLighting, words: &mut [u32]) -> u32
 }
 
 // The block of a register file's lighting.
-#[unsafe(no_mangle)]
-pub extern "C" fn block_pack(file: &[u32], words: &mut [u32]) -> u32
+pub fn block_pack(file: &[u32], words: &mut [u32]) -> u32
     ensures { packing_as result words.new ≡ pack_file file.now words.old }
 {
     let read = decoding::read(file);
@@ -34,8 +34,7 @@ pub extern "C" fn block_pack(file: &[u32], words: &mut [u32]) -> u32
 
 // What the check finds of a block: 6 and 7 as reading refuses it, 100 where it is off, and of a well-formed one 0 if no word is a NaN's
 // pattern, else 1.
-#[unsafe(no_mangle)]
-pub extern "C" fn block_form(words: &[u32]) -> u32
+pub fn block_form(words: &[u32]) -> u32
     ensures { result ≡ form_number words.now }
 {
     if words.len() != 328 {

@@ -1,6 +1,7 @@
 // What a block's words are: the check that runs at each call of the block shader. It goes over the words once, part by part, with no branch
 // for a word. The words come as words or as bytes. `lanes` are four words side by side, `zeros` has the words that must be zero, `options` and `head`
 // the first 40, `floats` the NaNs, `lights` the lit slots.
+#![tactic(auto)]
 mod floats;
 mod head;
 mod lanes;

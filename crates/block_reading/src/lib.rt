@@ -1,5 +1,6 @@
 // The block reader: the lighting of a block, or off, or a refusal. The block is never copied: each part is read where it stands, the first 40 words in `head`, a slot's in
 // `light`. The words come as words or as bytes.
+#![tactic(auto)]
 pub mod head;
 pub mod light;
 

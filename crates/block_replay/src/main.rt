@@ -1,4 +1,5 @@
 // Replays a list of register files, and compares the block of each with the Rust module's: how many there were and how many differ, and each difference.
+#![tactic(auto)]
 use libc::STDOUT_FILENO;
 
 // How many files were replayed, and how many of those differ.

@@ -1,4 +1,5 @@
 // Runs a list of captures and writes what each prints, under its number. The file `stdout` has the Rust module's lines.
+#![tactic(auto)]
 ghost use Rattle.std.specs.Prelude.{◌+◌, ◌<◌, ◌≤◌, length};
 
 use libc::STDOUT_FILENO;

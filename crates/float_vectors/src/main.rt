@@ -1,4 +1,5 @@
 // Compares root and floor with published vectors: for each file of data/ how many were compared and how many differ, and each difference.
+#![tactic(auto)]
 use libc::STDOUT_FILENO;
 
 #[derive(Clone, Copy)]

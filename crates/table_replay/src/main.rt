@@ -1,4 +1,5 @@
 // Replays a list of writes and restores, and compares each answer with the Rust module's: how many calls there were and how many differ, and each difference.
+#![tactic(auto)]
 ghost use Rattle.std.specs.Prelude.{◌<◌};
 
 use libc::STDOUT_FILENO;

@@ -1,4 +1,5 @@
 // Words written as text, eight hexadecimal digits each, which the replayed lists of data/ are made of: a library for tests alone.
+#![tactic(auto)]
 ghost use Rattle.std.specs.Prelude.{◌≡◌, ◌≤◌, length, take, drop, false};
 ghost use Rattle.word_text.specs.Text.{digit_of, digits_of, is_gap, in_remark, next_of};
 ghost use Rattle.word_text.specs.Load.{loaded, loaded_as, OfSomeText};
