@@ -1,11 +1,10 @@
 -- `places::difference` meets its contract: two numbers below 256 stand in an `i32` as they are, and so does their difference.
--- Assumes nothing.
+--
 use mathlib.Core.Path.{◌≡◌, refl, sym, ap, ◌∙◌, subst}
 use mathlib.Core.Bool.{Bool, true, false, cond}
 use Prim.Native.Nat.{ℕ, zero, suc, ◌-◌, ◌≤◌, ◌<◌}
 use native.Mathlib.Nat.{add-zero, sub-zero, lt_trans}
 use native.Mathlib.Omega.{arith}
-use borrow.Author.Rules.{rules}
 use borrow.Author.Tests.{leb-true, leb-false, le-ltb, lt-ltb}
 use lib.IntN.{ℤ, pos, negsuc, ◌-ℤ◌}
 use lib.Signed.{mag}
@@ -14,8 +13,7 @@ use lib.Ieee.{binary32, minus, of_int, in_float}
 use mir.Syntax.{w32}
 use mir.Val.{SFits, to_z, of_z}
 use mir.Facts.{to_z-of_z, to_z_pos}
-use Rattle.binary32.proofs.places.difference.Statement.{statement}
-use Rattle.binary32.proofs.places.difference.Tie as tie
+use Rattle.binary32.proofs.places.difference.Goals as goal
 
 -- the two ways to write a - b
 is-minus : (a b : ℕ) → pos a -ℤ pos b ≡ minus a b
@@ -56,24 +54,14 @@ sfits a b h k = record { sfits = subst (λ (z : ℤ). mag z < 2147483648) (sym (
 read : (a b : ℕ) → a < 256 → b < 256 → to_z w32 (of_z w32 (to_z w32 a -ℤ to_z w32 b)) ≡ minus a b
 read a b h k = to_z-of_z (sfits a b h k) ∙ sum a b h k
 
-cast-result : tie.Need-overflow-cast-result
-cast-result c = search rules
+pub overflow_sub-result : goal.overflow_sub-result
+overflow_sub-result c = sfits c.args.a c.args.b c.requires.0 c.requires.1
 
-cast-result-2 : tie.Need-overflow-cast-result-2
-cast-result-2 c = search rules
+pub int_to_float-result : goal.int_to_float-result
+int_to_float-result c =
+    let a = c.args.a in
+    let b = c.args.b in
+    subst (λ (z : ℤ). T (in_float binary32 z)) (sym (read a b c.requires.0 c.requires.1)) (fits-float (minus a b) (small a b c.requires.0 c.requires.1))
 
-sub-result : tie.Need-overflow-sub-result
-sub-result c = sfits c.args.a c.args.b c.requires.0 c.requires.1
-
-int-to-float-result : tie.Need-int-to-float-result
-int-to-float-result c =
-    let a = c.before.args.a in
-    let b = c.before.args.b in
-    subst (λ (z : ℤ). T (in_float binary32 z)) (sym (read a b c.before.requires.0 c.before.requires.1)) (fits-float (minus a b) (small a b c.before.requires.0 c.before.requires.1))
-
-returns : tie.Need-returns
-returns c = ap (of_int binary32) (read c.before.args.a c.before.args.b c.before.requires.0 c.before.requires.1)
-
-pub difference_spec : {M : Type 1} → statement M
-difference_spec =
-    tie.close (tie.spec cast-result cast-result-2 sub-result int-to-float-result returns)
+pub returns : goal.returns
+returns c = ap (of_int binary32) (read c.args.a c.args.b c.requires.0 c.requires.1)
