@@ -12,10 +12,10 @@ pub returns-then-y-high : goal.returns-then-y-high
 unfolding held_of
 returns-then-y-high c = bounded c.if-x-low.y _ c.args.high _ ((let a = c.args in
     let at : Bool → Float = λ b. cond b a.x a.low in
-    elim c.if-x-low.branch [ then-x-low w ↦ w.1 ∙ sym (ap at w.if-x-low.true) | else-x-low w ↦ w.1 ∙ sym (ap at w.if-x-low.false) ]) c.if-y-high.true
+    elim c.if-x-low.branch [ then-x-low w ↦ w.y-is ∙ sym (ap at w.if-x-low.true) | else-x-low w ↦ w.y-is ∙ sym (ap at w.if-x-low.false) ])) c.if-y-high.true
 
 pub returns-else-y-high : goal.returns-else-y-high
 unfolding held_of
 returns-else-y-high c = bounded c.if-x-low.y _ c.args.high _ ((let a = c.args in
     let at : Bool → Float = λ b. cond b a.x a.low in
-    elim c.if-x-low.branch [ then-x-low w ↦ w.1 ∙ sym (ap at w.if-x-low.true) | else-x-low w ↦ w.1 ∙ sym (ap at w.if-x-low.false) ]) c.if-y-high.false
+    elim c.if-x-low.branch [ then-x-low w ↦ w.y-is ∙ sym (ap at w.if-x-low.true) | else-x-low w ↦ w.y-is ∙ sym (ap at w.if-x-low.false) ])) c.if-y-high.false

@@ -12,31 +12,30 @@ use Rattle.binary32.specs.RaisedLaws.{raised_number, raised_bits, raised_bounds,
 use Rattle.binary32.proofs.whole_parts.Quantizing.{product_under, same_channel}
 use Rattle.binary32.proofs.whole_parts.quantized.Goals as goal
 
-fit : (c : goal.Start) → T (fits binary32 c.args.x)
-fit c = subst T (sym c.well_formed.0.1) tt
+abbrev product : Float → Float
+product x = mul binary32 (held_of x float0 float1) float255
 
-abbrev product : goal.Start → Float
-product c = mul binary32 (held_of c.args.x float0 float1) float255
+in_range_lem : (x : Float) → T (raisable (product x))
+in_range_lem x = under_raisable (product x) (product_under x)
 
-in_range_lem : (c : goal.Start) → T (raisable (product c))
-in_range_lem c = under_raisable (product c) (product_under c.args.x)
+bounds : (x : Float) → (8388608 ≤ raised_floor (product x)) × (raised_floor (product x) < 16777216)
+bounds x = raised_bounds (product x) (in_range_lem x)
 
-bounds : (c : goal.Start) → (8388608 ≤ raised_floor (product c)) × (raised_floor (product c) < 16777216)
-bounds c = raised_bounds (product c) (in_range_lem c)
-
-raised_is : (c : tie.After-raised-floor) → c.raised-floor.result ≡ of_int binary32 (pos (raised_floor (product c.before.before)))
-raised_is c = c.raised-floor.ensures ∙ ap (λ (y : Float). of_int binary32 (pos (raised_floor (mul binary32 y float255)))) c.before.held.ensures
+raised_is : (c : goal.After-raised_floor-w) → c.raised_floor-w.result ≡ of_int binary32 (pos (raised_floor (product c.args.x)))
+raised_is c = c.raised_floor-w.ensures ∙ ap (λ (y : Float). of_int binary32 (pos (raised_floor (mul binary32 y float255)))) c.held.ensures
 
 pub raised_floor-w-requires : goal.raised_floor-w-requires
-raised_floor-w-requires c = subst (λ (y : Float). T (raisable (mul binary32 y float255))) (sym c.held.ensures) (in_range_lem c.before)
+raised_floor-w-requires c = subst (λ (y : Float). T (raisable (mul binary32 y float255))) (sym c.held.ensures) (in_range_lem c.args.x)
 
 pub float_to_bits-result : goal.float_to_bits-result
-float_to_bits-result c = let s = c.before.before in subst (λ (w : Float). T (not (is_nan w))) (sym (raised_is c)) (raised_number (raised_floor (product s)) (bounds s).1)
+float_to_bits-result c =
+    let x = c.args.x in
+    subst (λ (w : Float). T (not (is_nan w))) (sym (raised_is c)) (raised_number (raised_floor (product x)) (bounds x).1)
 
 pub returns : goal.returns
 returns c =
-    let s = c.before.before in
+    let x = c.args.x in
     ap (λ (w : Float). to_bits binary32 w % 256) (raised_is c)
-    ∙ ap (λ (n : ℕ). n % 256) (raised_bits (raised_floor (product s)) (bounds s).0 (bounds s).1)
-    ∙ under_raised (product s) (product_under s.args.x)
-    ∙ same_channel s.args.x (fit s)
+    ∙ ap (λ (n : ℕ). n % 256) (raised_bits (raised_floor (product x)) (bounds x).0 (bounds x).1)
+    ∙ under_raised (product x) (product_under x)
+    ∙ same_channel x (subst T (sym c.well_formed.0.1) tt)
