@@ -12,7 +12,7 @@ pub shape_of-out : goal.shape_of-out
 shape_of-out c =
     let t = c.put_text-next in
     let d = c.put_decimal-end in
-    simp length-set (d.auto.0 ∙ t.auto.0)
+    simp length-set (d.auto.out ∙ t.auto.out)
 
 pub returns : goal.returns
 unfolding puts
