@@ -4,46 +4,53 @@ use mathlib.Core.Path.{sym, ◌∙◌}
 use borrow.Author.Rules.{rules}
 use Rattle.unit.specs.Unit.{current}
 use Rattle.unit.specs.HandOverLaws.{hand_over_lengths}
-use Rattle.unit.proofs.handing_over.Handing.{past_zero, by_length, by_read, kept_read, anew_read, refused_hands, done_hands}
+use Rattle.unit.proofs.handing_over.Handing.{Read, past_zero, by_length, by_read, kept_read, anew_read, refused_hands, done_hands}
 use Rattle.unit.proofs.handing_over.hand_over.Goals as goal
 use Rattle.unit.proofs.handing_over.hand_over.Goals.{else-not-current, then-not-current}
 
 pub returns-in-Refused : goal.returns-in-Refused
 returns-in-Refused c =
     let a = c.args in
-    by_length a.file.now a.tables.now a.generation a.t4 a.block.now a.copied.now a.age c.in-Refused.is c.length_refusal-refused.ensures
+    by_length a.file.now a.tables.now a.generation a.cache a.block.now a.copied.now a.age c.in-Refused.is c.length_refusal-refused.ensures
 
 pub current-requires : goal.current-requires
 current-requires c =
-    let lengths = hand_over_lengths _ _ _ _ (past_zero c.in_default.is c.before.before.before.before.before.length-refusal.ensures) in
+    let lengths = hand_over_lengths _ _ _ _ (past_zero c.in_default.is c.length_refusal-refused.ensures) in
     (lengths.0, search rules)
 
 pub read_anew-cache-requires : goal.read_anew-cache-requires
 read_anew-cache-requires c =
-    (hand_over_lengths _ _ _ _ (past_zero c.in_default.is c.before.before.before.before.before.before.before.length-refusal.ensures)).0
+    (hand_over_lengths _ _ _ _ (past_zero c.in_default.is c.length_refusal-refused.ensures)).0
 
 pub take-taken-requires : goal.take-taken-requires
 take-taken-requires c =
-    let lengths = hand_over_lengths _ _ _ _ (past_zero c.in_default.is c.before.before.before.before.before.before.before.before.before.before.length-refusal.ensures) in
+    let lengths = hand_over_lengths _ _ _ _ (past_zero c.in_default.is c.length_refusal-refused.ensures) in
     (lengths.1, lengths.3, lengths.2)
 
 pub returns-in-Refused-taken : goal.returns-in-Refused-taken
+unfolding current
 returns-in-Refused-taken c =
-    let join = c.before.before.before.before.before.before.before.before.before.before in
-    let a = join.before.before.before.before.before.before.before.before.before.before.before.before.args in
-    let n = join.if-not-current.cache in
-    let zero = past_zero c.in_default.is c.before.before.before.before.before.before.before.before.before.before.before.before.before.before.before.before.before.length-refusal.ensures in
-    by_read a.file.now a.tables.now a.generation a.t4 a.block.now a.copied.now a.age n zero (let a = join.before.before.before.before.before.before.before.before.before.before.before.before.args in
-    elim join.if-not-current.branch [ then-not-current w ↦ anew_read a.file.now a.t4 join.if-not-current.cache (sym join.current.ensures ∙ w.if-not-current.true) (w.2 ∙ w.1.ensures) | else-not-current w ↦ kept_read a.file.now a.t4 join.if-not-current.cache (sym join.current.ensures ∙ w.if-not-current.false) w.1 ]).0
-    (refused_hands n a.tables.now a.generation a.t4 a.block.now a.copied.now a.age _ _ c.in-Refused-taken.is (let a = join.before.before.before.before.before.before.before.before.before.before.before.before.args in
-    elim join.if-not-current.branch [ then-not-current w ↦ anew_read a.file.now a.t4 join.if-not-current.cache (sym join.current.ensures ∙ w.if-not-current.true) (w.2 ∙ w.1.ensures) | else-not-current w ↦ kept_read a.file.now a.t4 join.if-not-current.cache (sym join.current.ensures ∙ w.if-not-current.false) w.1 ]).1 c.take-taken.ensures)
+    let a = c.args in
+    let n = c.if-not-current.cache in
+    let zero = past_zero c.in_default.is c.length_refusal-refused.ensures in
+    let read : Read a.file.now a.cache n =
+    elim c.if-not-current.branch [
+      | then-not-current w ↦ anew_read a.file.now a.cache n (sym c.current.ensures ∙ w.if-not-current.true) (w.cache-is ∙ w.read_anew-cache.ensures)
+      | else-not-current w ↦ kept_read a.file.now a.cache n (sym c.current.ensures ∙ w.if-not-current.false) w.cache-is
+    ] in
+    by_read a.file.now a.tables.now a.generation a.cache a.block.now a.copied.now a.age n zero read.0
+    (refused_hands n a.tables.now a.generation a.cache a.block.now a.copied.now a.age _ _ c.in-Refused-taken.is read.1 c.take-taken.ensures)
 
 pub returns : goal.returns
+unfolding current
 returns c =
-    let join = c.before.before.before.before.before.before.before.before.before.before in
-    let a = join.before.before.before.before.before.before.before.before.before.before.before.before.args in
-    let n = join.if-not-current.cache in
-    let zero = past_zero c.in_default.is c.before.before.before.before.before.before.before.before.before.before.before.before.before.before.before.before.before.length-refusal.ensures in
-    by_read a.file.now a.tables.now a.generation a.t4 a.block.now a.copied.now a.age n zero (let a = join.before.before.before.before.before.before.before.before.before.before.before.before.args in
-    elim join.if-not-current.branch [ then-not-current w ↦ anew_read a.file.now a.t4 join.if-not-current.cache (sym join.current.ensures ∙ w.if-not-current.true) (w.2 ∙ w.1.ensures) | else-not-current w ↦ kept_read a.file.now a.t4 join.if-not-current.cache (sym join.current.ensures ∙ w.if-not-current.false) w.1 ]).0
-    (done_hands n a.tables.now a.generation a.t4 a.block.now a.copied.now a.age _ _ c.in_default-taken.is c.take-taken.ensures)
+    let a = c.args in
+    let n = c.if-not-current.cache in
+    let zero = past_zero c.in_default.is c.length_refusal-refused.ensures in
+    let read : Read a.file.now a.cache n =
+    elim c.if-not-current.branch [
+      | then-not-current w ↦ anew_read a.file.now a.cache n (sym c.current.ensures ∙ w.if-not-current.true) (w.cache-is ∙ w.read_anew-cache.ensures)
+      | else-not-current w ↦ kept_read a.file.now a.cache n (sym c.current.ensures ∙ w.if-not-current.false) w.cache-is
+    ] in
+    by_read a.file.now a.tables.now a.generation a.cache a.block.now a.copied.now a.age n zero read.0
+    (done_hands n a.tables.now a.generation a.cache a.block.now a.copied.now a.age _ _ c.in_default-taken.is c.take-taken.ensures)

@@ -31,12 +31,12 @@ returns-then-not-refresh c =
 
 pub take_block-requires : goal.take_block-requires
 take_block-requires c =
-    let r = c.before.before.before.before.before.refresh in
-    (r.auto.1.0 ∙ c.before.before.before.before.before.before.before.if3.false, c.before.before.before.before.before.before.before.before.if2.false, ap (λ (x : List ℕ). formed (cache_block x)) r.ensures.0 ∙ sym r.ensures.1 ∙ c.before.before.if4.false)
+    let r = c.refresh in
+    (r.auto.cache ∙ c.if-cache-ne-CACHE_WORDS.false, c.if-block-ne328.false, ap (λ (x : List ℕ). formed (cache_block x)) r.ensures.0 ∙ sym r.ensures.1 ∙ c.if-not-refresh.false)
 
 pub returns : goal.returns
 returns c =
-    let a = c.before.before.before.before.before.before.before.before.before.before.before.before.before.before.before.before.args in
-    let r = c.before.before.before.before.before.before.before.before.refresh.ensures in
+    let a = c.args in
+    let r = c.refresh.ensures in
     rw (c.take_block.ensures.1, c.take_block.ensures.0, r.0)
-    (cached_done a.file.now a.cache.now a.block.now c.before.before.before.before.before.before.before.before.before.before.before.before.if1.false c.before.before.before.before.before.before.before.before.before.before.before.if2.false c.before.before.before.before.before.before.before.before.before.before.if3.false (sym r.1 ∙ c.before.before.before.before.before.if4.false))
+    (cached_done a.file.now a.cache.now a.block.now c.if-file-lt474.false c.if-block-ne328.false c.if-cache-ne-CACHE_WORDS.false (sym r.1 ∙ c.if-not-refresh.false))

@@ -42,19 +42,19 @@ returns-then-not-refresh c =
 
 pub take_block-requires : goal.take_block-requires
 take_block-requires c =
-    let r = c.before.before.before.before.before.refresh in
-    (r.auto.1.0 ∙ c.before.before.before.before.before.before.before.if5.false, c.before.before.before.before.before.before.before.before.if4.false, ap (λ (x : List ℕ). formed (cache_block x)) r.ensures.0 ∙ sym r.ensures.1 ∙ c.before.before.if6.false)
+    let r = c.refresh in
+    (r.auto.cache ∙ c.if-cache-ne-CACHE_WORDS.false, c.if-block-ne328.false, ap (λ (x : List ℕ). formed (cache_block x)) r.ensures.0 ∙ sym r.ensures.1 ∙ c.if-not-refresh.false)
 
 pub returns-then-generation-age : goal.returns-then-generation-age
 returns-then-generation-age c =
-    let a = c.before.before.before.before.before.before.before.before.before.before.before.before.before.before.before.before.before.before.before.before.before.before.before.before.before.before.args in
-    let r = c.before.before.before.before.before.before.before.before.before.before.before.before.before.before.refresh.ensures in
+    let a = c.args in
+    let r = c.refresh.ensures in
     rw (c.take_block.ensures.0, r.0, c.copy.ensures)
-    (handed_taken a.file.now a.tables.now a.generation a.cache.now a.block.now a.copied.now a.age.now c.before.before.before.before.before.before.before.before.before.before.before.before.before.before.before.before.before.before.before.before.if1.false c.before.before.before.before.before.before.before.before.before.before.before.before.before.before.before.before.before.before.before.if2.false c.before.before.before.before.before.before.before.before.before.before.before.before.before.before.before.before.before.before.if3.false c.before.before.before.before.before.before.before.before.before.before.before.before.before.before.before.before.before.if4.false c.before.before.before.before.before.before.before.before.before.before.before.before.before.before.before.before.if5.false (sym r.1 ∙ c.before.before.before.before.before.before.before.before.before.before.before.if6.false) c.if-generation-age.true)
+    (handed_taken a.file.now a.tables.now a.generation a.cache.now a.block.now a.copied.now a.age.now c.if-file-lt474.false c.if-tables-ne12288.false c.if-copied-ne12288.false c.if-block-ne328.false c.if-cache-ne-CACHE_WORDS.false (sym r.1 ∙ c.if-not-refresh.false) c.if-generation-age.true)
 
 pub returns-else-generation-age : goal.returns-else-generation-age
 returns-else-generation-age c =
-    let a = c.before.before.before.before.before.before.before.before.before.before.before.before.before.before.before.before.before.before.before.before.before.before.args in
-    let r = c.before.before.before.before.before.before.before.before.before.before.refresh.ensures in
+    let a = c.args in
+    let r = c.refresh.ensures in
     rw (c.take_block.ensures.0, r.0)
-    (handed_same a.file.now a.tables.now a.generation a.cache.now a.block.now a.copied.now a.age.now c.before.before.before.before.before.before.before.before.before.before.before.before.before.before.before.before.if1.false c.before.before.before.before.before.before.before.before.before.before.before.before.before.before.before.if2.false c.before.before.before.before.before.before.before.before.before.before.before.before.before.before.if3.false c.before.before.before.before.before.before.before.before.before.before.before.before.before.if4.false c.before.before.before.before.before.before.before.before.before.before.before.before.if5.false (sym r.1 ∙ c.before.before.before.before.before.before.before.if6.false) c.if-generation-age.false)
+    (handed_same a.file.now a.tables.now a.generation a.cache.now a.block.now a.copied.now a.age.now c.if-file-lt474.false c.if-tables-ne12288.false c.if-copied-ne12288.false c.if-block-ne328.false c.if-cache-ne-CACHE_WORDS.false (sym r.1 ∙ c.if-not-refresh.false) c.if-generation-age.false)

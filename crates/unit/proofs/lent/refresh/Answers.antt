@@ -10,18 +10,16 @@ use Rattle.unit.proofs.lent.refresh.Goals as goal
 
 pub returns-then-is_current : goal.returns-then-is_current
 returns-then-is_current c =
-    let s = c.before.before.before.before.before.before.before.before in
-    let k = sym c.before.before.before.before.is-current.ensures ∙ c.before.before.before.if1.true in
-    let f = s.args.file.now in
-    let w = s.args.cache.now in
-    let e = kept_refreshed f s.requires.0 w k in
-    (sym e, c.is_formed.ensures ∙ ap formed (block_part w s.requires.1) ∙ ap (λ (x : List ℕ). formed (cache_block x)) (sym e))
+    let k = sym c.is_current.ensures ∙ c.if-is_current.true in
+    let f = c.args.file.now in
+    let w = c.args.cache.now in
+    let e = kept_refreshed f c.requires.0 w k in
+    (sym e, c.is_formed.ensures ∙ ap formed (block_part w c.requires.1) ∙ ap (λ (x : List ℕ). formed (cache_block x)) (sym e))
 
 pub returns : goal.returns
 returns c =
-    let s = c.before.before.before.before.before.before.before.before.before in
     let k = sym c.is_current.ensures ∙ c.if-is_current.false in
-    let f = s.args.file.now in
-    let w = s.args.cache.now in
-    let e = anew_refreshed f s.requires.0 w k in
-    (c.read_anew.ensures ∙ sym e, sym (ap (λ (x : List ℕ). formed (cache_block x)) e ∙ anew_formed f s.requires.0 w))
+    let f = c.args.file.now in
+    let w = c.args.cache.now in
+    let e = anew_refreshed f c.requires.0 w k in
+    (c.read_anew.ensures ∙ sym e, sym (ap (λ (x : List ℕ). formed (cache_block x)) e ∙ anew_formed f c.requires.0 w))

@@ -12,9 +12,9 @@ returns-then-file-lt474 c = simp (lt-leb 474 _ c.if-file-lt474.true)
 pub returns-then-current : goal.returns-then-current
 unfolding cached_read_if file_refusal refreshed current
 returns-then-current c =
-    simp (le-leb 474 _ c.before.before.before.before.before.if1.false, sym c.current.ensures ∙ c.if-current.true)
+    simp (le-leb 474 _ c.if-file-lt474.false, sym c.current.ensures ∙ c.if-current.true)
 
 pub returns : goal.returns
 unfolding cached_read_if file_refusal refreshed current
 returns c =
-    simp (le-leb 474 _ c.before.before.before.before.before.before.if1.false, sym c.current.ensures ∙ c.if-current.false, c.read_anew.ensures)
+    simp (le-leb 474 _ c.if-file-lt474.false, sym c.current.ensures ∙ c.if-current.false, c.read_anew.ensures)
