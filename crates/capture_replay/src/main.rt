@@ -1,5 +1,6 @@
 // Runs a list of captures and writes what each prints, under its number. The file `stdout` has the Rust module's lines.
 #![tactic(auto)]
+
 ghost use Rattle.std.specs.Prelude.{◌+◌, ◌<◌, ◌≤◌, length};
 
 // What the words of the list say of the capture that is being put together.

@@ -1,6 +1,7 @@
 // Counts what the patterns of a short float end as, by visiting every one of them, and prints the four totals on a line: zeros, infinities, NaNs and other
 // numbers. Without arguments it counts the half; with two, a mantissa's and an exponent's width, the float of these. All that counts is the library's.
 #![tactic(auto)]
+
 ghost use Rattle.std.specs.Prelude.{◌≡◌, min};
 ghost use Rattle.census.specs.Arguments.{width_of};
 

@@ -1,5 +1,6 @@
 // Compares root and floor with published vectors: for each file of data/ how many were compared and how many differ, and each difference.
 #![tactic(auto)]
+
 use std::rt::Files;
 
 #[derive(Clone, Copy)]

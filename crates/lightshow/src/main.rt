@@ -1,5 +1,6 @@
 // Reads a capture on standard input and writes what it prints. What it prints is worked out by the library call; this only passes it on.
 #![tactic(auto)]
+
 ghost use Rattle.std.specs.Prelude.{◌≡◌};
 ghost use Rattle.capture_calls.specs.Capture.{short_output, number_by, size_of};
 ghost use Rattle.lightshow.specs.Input.{Within};

@@ -1,5 +1,6 @@
 // Replays a list of writes and restores, and compares each answer with the Rust module's: how many calls there were and how many differ, and each difference.
 #![tactic(auto)]
+
 ghost use Rattle.std.specs.Prelude.{◌<◌};
 
 use tables::Written;
@@ -192,12 +193,7 @@ fn replay_call(
 }
 
 // Every call of the list, on one unit.
-fn replay(
-    rt: &impl Print,
-    file: &mut [u32],
-    entries: &mut [u32],
-    words: &[u32],
-) -> Count {
+fn replay(rt: &impl Print, file: &mut [u32], entries: &mut [u32], words: &[u32]) -> Count {
     let mut count = Count {
         calls: 0,
         differ: 0,
