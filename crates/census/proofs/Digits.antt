@@ -1,5 +1,5 @@
 -- One step of the definitions that read a width: what they give from a place on is what they give after the byte there. Assumes nothing.
-use Rattle.std.proofs.Common.{ℕ, ◌+◌, ◌-◌, ◌*◌, ◌≤◌, ◌<◌, min, add-one, arith, ◌≡◌, refl, sym, ◌∙◌, cond, ◌||◌, List, [], ◌∷◌, ltb, length, drop, get_or, drop-cons}
+use Rattle.std.proofs.Common.{ℕ, ◌+◌, ◌-◌, ◌*◌, ◌≤◌, ◌<◌, min, add-one, arith, ◌≡◌, refl, ◌∙◌, cond, ◌||◌, List, [], ◌∷◌, ltb, length, drop, get_or, drop-cons}
 use borrow.Author.Tests.{lt-ltb, le-ltb}
 use Rattle.std.proofs.Math.Seq.{drop-length}
 use Rattle.census.specs.declared.Width.TheVariants.{Of, Unread}

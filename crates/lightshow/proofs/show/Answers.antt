@@ -1,5 +1,5 @@
 -- The output has the 22,784 bytes that every capture's text fits in, so it is never too short.
-use Rattle.std.proofs.Common.{arith, rules}
+use Rattle.std.proofs.Common.{rules}
 use Rattle.capture_calls.specs.AnswerLaws.{output_suffices}
 use Rattle.lightshow.proofs.show.Goals as goal
 
