@@ -17,7 +17,11 @@ shade_each-requires c =
     let b = c.args.block.now in
     let f = c.form-form.ensures in
     let l : is_lit (block_form b) ≡ true = sym (ap is_lit f) ∙ sym c.is_lit.ensures ∙ c.if-is_lit.true in
-    ((c.requires.0, c.requires.1, refl, omega arith, c.requires.2), ((is_lit_lem b l).formed, (λ p. is_plain_lem b (sym (ap is_plain f) ∙ sym c.is_plain.ensures ∙ p), c.first_unit_quaternion-first.ensures)))
+    record {
+      lengths = (c.requires.0, c.requires.1, refl, omega arith, c.requires.2);
+      formed = (is_lit_lem b l).formed;
+      plain_marks = (λ p. is_plain_lem b (sym (ap is_plain f) ∙ sym c.is_plain.ensures ∙ p), c.first_unit_quaternion-first.ensures);
+    }
 
 pub returns-then-is_lit : goal.returns-then-is_lit
 unfolding given shaded_by_form
