@@ -39,5 +39,4 @@ pub returns-in-Refused : goal.returns-in-Refused
 returns-in-Refused c =
     let a = c.args in
     let r = c.read-read in
-    let k = c.outcome-1.given in
-    ap (λ (n : ℕ). packing n a.words.now) c.number.ensures ∙ read_refused a.file.now a.words.now r.result r.ensures _ (refusal_not_zero k.0.0) (ap outcome_number k.1)
+    ap (λ (n : ℕ). packing n a.words.now) c.number.ensures ∙ read_refused a.file.now a.words.now r.result r.ensures _ (refusal_not_zero c.in-Refused.refusal) (ap outcome_number c.in-Refused.is)

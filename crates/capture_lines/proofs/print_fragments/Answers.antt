@@ -45,7 +45,10 @@ print_all_lit-requires c =
     let b = c.args.block.now in
     let f = c.form-form.ensures in
     let l : is_lit (block_form b) ≡ true = sym (ap is_lit f) ∙ sym c.is_lit.ensures ∙ c.if-is_lit.true in
-    ((c.if-block-ne328.false, (is_lit_lem b l).formed, λ p. is_plain_lem b (sym (ap is_plain f) ∙ sym c.is_plain.ensures ∙ p)), (c.if-tables-ne12288.false, c.requires))
+    record {
+      block_len = (c.if-block-ne328.false, (is_lit_lem b l).formed, λ p. is_plain_lem b (sym (ap is_plain f) ∙ sym c.is_plain.ensures ∙ p));
+      tables_len = (c.if-tables-ne12288.false, c.requires);
+    }
 
 pub returns-then-is_lit : goal.returns-then-is_lit
 unfolding given

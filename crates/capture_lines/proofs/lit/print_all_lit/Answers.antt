@@ -14,12 +14,15 @@ use borrow.Author.Rules.{rules}
 use Rattle.capture_lines.proofs.lit.print_all_lit.Goals as goal
 
 pub loop-i-init : goal.loop-i-init
-loop-i-init c = (search rules, refl, refl, search rules, c.requires.1.1, rw lines_all)
+loop-i-init c = (search rules, refl, refl, search rules, c.requires.tables_len.1, rw lines_all)
 
 pub print_lit-next-requires : goal.print_lit-next-requires
 print_lit-next-requires c =
     let l = c.loop-i in
-    (c.requires.0, (c.requires.1.0, simp (length-take, length-drop) (omega arith), omega arith))
+    record {
+      block_len = c.requires.block_len;
+      tables_len = (c.requires.tables_len.0, simp (length-take, length-drop) (omega arith), omega arith);
+    }
 
 pub loop-i-preserved : goal.loop-i-preserved
 loop-i-preserved c =
@@ -27,7 +30,7 @@ loop-i-preserved c =
     let r = c.print_lit-next in (
       search rules,
       refl,
-      r.auto.1.1.1.1.0 ∙ l.invariant.2,
+      r.auto.out ∙ l.invariant.2,
       omega (arith, r.ensures.1),
       l.invariant.4,
       lines_turn (lit_shades (block_lighting (words c.args.block.now)) c.args.tables.now) c.args.fragments.now l.out _ l.i _ l.next _ _ _ (omega arith) (part_is _ (23 * l.i) 23) r.ensures.0 l.invariant.5,

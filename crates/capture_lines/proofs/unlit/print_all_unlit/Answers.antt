@@ -20,7 +20,7 @@ loop-i-preserved c =
     let r = c.print_unlit-next in (
       search rules,
       refl,
-      r.auto.1.0 ∙ l.invariant.2,
+      r.auto.out ∙ l.invariant.2,
       omega (arith, r.ensures.1),
       l.invariant.4,
       lines_turn (unlit_shades c.args.number) c.args.fragments.now l.out _ l.i _ l.next _ _ _ (omega arith) refl r.ensures.0 l.invariant.5,

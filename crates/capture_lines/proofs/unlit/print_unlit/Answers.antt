@@ -13,7 +13,7 @@ returns-then-number-eq100 c =
 pub returns : goal.returns
 unfolding shown_line
 returns c =
-    let put = c.before.before.Put-refused in
+    let put = c.put_refused in
     let n = c.args.number in (
       rw (ne_eqb n 0 (λ e. omega arith), ne_eqb n 100 c.if-number-eq100.false) put.ensures.0,
       omega (arith, put.ensures.1),
