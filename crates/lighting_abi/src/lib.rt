@@ -2,6 +2,7 @@
 // it; names, order of arguments and numbers are the ones that stand there. A call returns 0, the papers' number of a refusal, 100 where a lighting is off, or
 // 101 for a slice of which the papers don't speak, and on a refusal nothing has changed. `answer_bytes` writes an answer's bytes; all else stands here.
 #![tactic(auto)]
+
 mod answer_bytes;
 
 ghost use Rattle.std.specs.Prelude.{◌≡◌};

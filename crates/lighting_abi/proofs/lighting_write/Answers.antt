@@ -1,0 +1,8 @@
+-- `lighting_abi::lighting_write` meets its contract. In each arm of the match the answer is the one that `write` ensures, with its generation or its number taken out.
+use Rattle.lighting_abi.proofs.lighting_write.Goals as goal
+
+pub returns-in-Done : goal.returns-in-Done
+returns-in-Done c = rw c.in-Done.is at c.write.ensures
+
+pub returns-in-Refused : goal.returns-in-Refused
+returns-in-Refused c = rw c.number.ensures (rw c.in-Refused.is at c.write.ensures)
