@@ -1,6 +1,7 @@
 // Words and 32-bit floats, each as the other, and what a place in a table is. `order` has magnitude, max, min and clamp, `whole_parts` floor and quantising,
 // `places` the places themselves.
 #![tactic(auto)]
+
 pub mod order;
 pub mod places;
 pub mod whole_parts;

@@ -2,6 +2,7 @@
 // for a word. The words come as words or as bytes. `lanes` are four words side by side, `zeros` has the words that must be zero, `options` and `head`
 // the first 40, `floats` the NaNs, `lights` the lit slots.
 #![tactic(auto)]
+
 mod floats;
 mod head;
 mod lanes;

@@ -1,6 +1,7 @@
 // The check of a capture, before anything of it is run: refusals 8 and 3. Its modules follow the data: `words` has the bytes as words, `contents` the size of an input and the place of a
 // body, `form` the contents and bodies as a whole, `registers` those of kind 1 bodies.
 #![tactic(auto)]
+
 pub mod contents;
 mod form;
 mod registers;

@@ -1,5 +1,6 @@
 // The lighting of a draw, as it is decoded from the registers, packed into a block and read back from one.
 #![tactic(auto)]
+
 pub mod tables;
 
 ghost use Rattle.std.specs.Prelude.{◌≡◌};

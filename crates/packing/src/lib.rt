@@ -1,6 +1,7 @@
 // Packing: the block of a lighting, as the words of the hardware renderer's uniform block, in the order its shader declares them. `flag_words` and `rows` have the pieces,
 // `head_words` the first 40 words, `light_words` a slot's.
 #![tactic(auto)]
+
 mod flag_words;
 mod head_words;
 mod light_words;

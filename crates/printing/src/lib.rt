@@ -1,6 +1,7 @@
 // The text that a capture prints, written into a buffer from a place on: a fragment's line, `off`, `refused N`. Each function answers the
 // place after what it wrote, and no line is longer than 32 bytes. `decimals` writes a number, and is read first; the lines stand here.
 #![tactic(auto)]
+
 mod decimals;
 
 ghost use Rattle.std.specs.Prelude.{◌≡◌, cond, eqb, ◌+◌, ◌≤◌, ◌<◌, length};

@@ -1,6 +1,7 @@
 // The square root of an f32, correctly rounded, by whole-number arithmetic on its bit pattern.
 // A value above zero is m * 2 ^ (y - 126) smallest values, for an m of 24 binary digits. It is carried as n: y, then the 23 digits of m below the leading one.
 #![tactic(auto)]
+
 ghost use Rattle.std.specs.Prelude.{◌≡◌, ◌*◌, ◌^◌, ◌<◌};
 ghost use Rattle.root.specs.Root.{root_of};
 ghost use Rattle.root.specs.Steps.{Near, Wide, Placed, Rooted};

@@ -1,6 +1,7 @@
 // Words that a caller has as a slice of words or as a slice of bytes, four to a word, the least first. A function that takes both slices
 // serves both: an empty slice of bytes says that the words are meant.
 #![tactic(auto)]
+
 ghost use Rattle.std.specs.Prelude.{◌≡◌, ◌≤◌, ◌<◌, ◌/◌, length, get_or};
 ghost use Rattle.sources.specs.Steps.{given, word_at};
 

@@ -1,6 +1,7 @@
 // What every light sees of a fragment: the normal and the tangent, turned by the quaternion, and the view. Before it `shadow` and `bump` have what a texel gives, after it `light` has
 // the ray to a light.
 #![tactic(auto)]
+
 mod bump;
 pub mod light;
 pub mod shadow;

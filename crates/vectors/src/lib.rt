@@ -1,5 +1,6 @@
 // Vectors of three floats. The cross product and a quaternion's turn are `rotation`.
 #![tactic(auto)]
+
 pub mod rotation;
 
 ghost use Rattle.std.specs.Prelude.{◌≡◌};

@@ -1,0 +1,58 @@
+-- `head::lookup_formed` meets its contract: a lookup that is there has the tests of its three words, and one that isn't is formed exactly if its four words are
+-- zero, since a presence below 2 that is not 1 is 0.
+use Prim.Native.Nat.{ℕ, ◌+◌, ◌<◌}
+use native.Mathlib.Omega.{arith}
+use native.Mathlib.Nat.{add-zero}
+use mathlib.Core.Path.{◌≡◌, refl, sym, ◌∙◌}
+use mathlib.Core.Bool.{Bool, true, ◌&&◌, ◌||◌, and-true}
+use mathlib.Core.List.{List, [], ◌∷◌}
+use lib.Dec.{eqb, ltb, lit<}
+use borrow.Author.Tests.{eq-eqb, ne_eqb, ltb-true}
+use Rattle.sources.specs.Steps.{given}
+use Rattle.flags.specs.FlagsLaws.{alike}
+use Rattle.lighting.specs.Forms.{every}
+use Rattle.block.specs.Block.{words, from, zeros, scale_formed}
+use Rattle.block.specs.TestLaws.{chain_first, chain_part}
+use Rattle.block.specs.WordLaws.{zero_at}
+use Rattle.block_check.specs.Steps.{lookup_formed}
+use Rattle.block_check.proofs.head.lookup_formed.Goals as goal
+
+present : (v : ℕ → ℕ) → v 0 ≡ 1 → (ltb (v 1) 8 && ltb (v 2) 2 && scale_formed (v 3)) ≡ lookup_formed v
+unfolding lookup_formed
+present v e = rw e (sym (and-true (ltb (v 1) 8 && ltb (v 2) 2 && scale_formed (v 3))))
+
+missing : (v : ℕ → ℕ) → (v 0 ≡ 1 → ⊥) → zeros v 0 4 ≡ lookup_formed v
+unfolding lookup_formed zeros every scale_formed
+missing v ne = alike (zeros v 0 4) (lookup_formed v) formed zero
+  where
+    formed : zeros v 0 4 ≡ true → lookup_formed v ≡ true
+    formed h = rw (← zero_at v 0 4 0 h (lit< tt), ← zero_at v 0 4 1 h (lit< tt), ← zero_at v 0 4 2 h (lit< tt), ← zero_at v 0 4 3 h (lit< tt)) refl
+
+    zero : lookup_formed v ≡ true → zeros v 0 4 ≡ true
+    zero h =
+        let cs : List Bool = ltb (v 1) 8 ∷ ltb (v 2) 2 ∷ scale_formed (v 3) ∷ (eqb (v 0) 1 || zeros v 1 3) ∷ [] in
+        let few : v 0 < 2 = ltb-true (v 0) 2 (chain_first (ltb (v 0) 2) cs h) in
+        let none : v 0 ≡ 0 = omega (arith, ne) in
+        rw (eq-eqb (v 0) 0 none) (rw (ne_eqb (v 0) 1 ne) at (chain_part (ltb (v 0) 2) cs h 3))
+
+-- the same words, counted from the block's start
+moved : (w : ℕ → ℕ) (at : ℕ) → zeros w at 4 ≡ zeros (from w at) 0 4
+unfolding zeros every
+moved w at = refl
+
+-- the word at `at` is the lookup's first
+first : (w : ℕ → ℕ) (at n : ℕ) → n ≡ w at → n ≡ w (at + 0)
+first w at n e = rw (add-zero at) e
+
+pub returns-then-word-eq1 : goal.returns-then-word-eq1
+returns-then-word-eq1 c =
+    let a = c.args in
+    let w = words (given a.block.now a.bytes.now) in
+    rw (c.scale_formed.ensures, c.word-then-word-eq1-3.ensures, c.word-then-word-eq1-2.ensures, c.word-then-word-eq1.ensures)
+    (present (from w a.at) (sym (first w a.at _ c.word.ensures) ∙ c.if-word-eq1.true))
+
+pub returns : goal.returns
+returns c =
+    let a = c.args in
+    let w = words (given a.block.now a.bytes.now) in
+    c.are_zero.ensures ∙ moved w a.at ∙ missing (from w a.at) (λ e. c.if-word-eq1.false (first w a.at _ c.word.ensures ∙ e))

@@ -1,0 +1,61 @@
+-- `lights::lights_found` meets its contract. The loop's invariant: what was found is that of the slots before this one, formed exactly if each of them is, and
+-- then without a NaN's bit exactly if their words are numbers.
+use Prim.Native.Nat.{ℕ, ◌+◌, ◌-◌}
+use native.Mathlib.Numerals.{add-one}
+use native.Mathlib.Omega.{arith}
+use mathlib.Core.Path.{◌≡◌, refl, sym, ap, ◌∙◌}
+use mathlib.Core.Bool.{Bool, ◌&&◌}
+use Rattle.sources.specs.Steps.{given}
+use Rattle.flags.specs.FlagsLaws.{both_first, both_second}
+use Rattle.lighting.specs.Forms.{every}
+use Rattle.lighting.specs.Lighting.{slot_of}
+use Rattle.block.specs.Block.{words, from, slot_at}
+use Rattle.block_check.specs.Steps.{light_formed, lights_formed, found_formed}
+use Rattle.block_check.proofs.lights.Lights.{lights_more}
+use Rattle.block_check.proofs.lights.lights_found.Goals as goal
+
+-- one slot more
+more : (w : ℕ → ℕ) (s : ℕ) (x : Bool) → x ≡ lights_formed w s → (x && light_formed (from w (slot_at (slot_of s)))) ≡ lights_formed w (s + 1)
+unfolding lights_formed every
+more w s x e = rw add-one (ap (λ (b : Bool). b && light_formed (from w (slot_at (slot_of s)))) e)
+
+pub loop-slot-init : goal.loop-slot-init
+unfolding found_formed lights_formed every
+loop-slot-init c = (omega arith, omega arith, refl, λ h. rw c.none.ensures at c.with_nans-nans.ensures)
+
+pub returns-then-count-slot : goal.returns-then-count-slot
+returns-then-count-slot c =
+    let l = c.loop-slot in
+    let e : l.slot.0 ≡ c.args.count = omega arith in
+    (rw e at l.invariant.2, rw e at l.invariant.3)
+
+pub slot_at-requires : goal.slot_at-requires
+slot_at-requires c = omega arith
+
+pub with_light-found-requires : goal.with_light-found-requires
+with_light-found-requires c = (c.requires.0, omega (arith, c.slot_at.ensures))
+
+pub overflow_add-slot : goal.overflow_add-slot
+overflow_add-slot c = omega arith
+
+pub loop-slot-smaller : goal.loop-slot-smaller
+loop-slot-smaller c = omega arith
+
+pub loop-slot-preserved : goal.loop-slot-preserved
+loop-slot-preserved c =
+    let a = c.args in
+    let l = c.loop-slot in
+    let w = words (given a.block.now a.bytes.now) in
+    let f = rw c.slot_at.ensures at c.with_light-found.ensures in
+    let one = light_formed (from w (slot_at (slot_of l.slot.0))) in (
+      omega arith,
+      omega arith,
+      f.0 ∙ more w l.slot.0 (found_formed l.found) l.invariant.2,
+      λ h. lights_more w l.slot.0 _ _ (both_second (found_formed l.found) one (sym f.0 ∙ h)) (l.invariant.3 (both_first (found_formed l.found) one (sym f.0 ∙ h))) f.1,
+    )
+
+pub returns : goal.returns
+returns c =
+    let l = c.loop-slot in
+    let e : l.slot.0 ≡ c.args.count = omega arith in
+    (rw e at l.invariant.2, rw e at l.invariant.3)
