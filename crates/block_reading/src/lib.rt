@@ -1,6 +1,7 @@
 // The block reader: the lighting of a block, or off, or a refusal. The block is never copied: each part is read where it stands, the first 40 words in `head`, a slot's in
 // `light`. The words come as words or as bytes.
 #![tactic(auto)]
+
 pub mod head;
 pub mod light;
 
@@ -61,6 +62,7 @@ pub fn is_lit(form: BlockForm) -> bool
 }
 
 // Whether a block of this form reads as a lighting, and no word is a NaN's pattern.
+#[tactic(auto, unfolding(crate::specs::Steps::is_plain))]
 pub fn is_plain(form: BlockForm) -> bool
     ensures { result ≡ is_plain form }
 {

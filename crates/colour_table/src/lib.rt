@@ -1,5 +1,6 @@
 // The quotients of a colour's fields from a constant table: `pairs` has it, two words to an entry.
 #![tactic(auto)]
+
 mod pairs;
 
 ghost use Rattle.std.specs.Prelude.{◌≡◌, ◌%◌, get_or};

@@ -1,5 +1,6 @@
 // Colours and spot components as the registers encode them. Upload words are `upload`, short floats `short_floats`.
 #![tactic(auto)]
+
 pub mod short_floats;
 pub mod upload;
 

@@ -1,0 +1,14 @@
+-- `head::lighting_with` meets its contract: each part is what the call that makes it ensures.
+use Rattle.sources.specs.Steps.{given}
+use Rattle.block.specs.Block.{words}
+use Rattle.block_reading.proofs.head.LightingMade.{lighting_made}
+use Rattle.block_reading.proofs.head.lighting_with.Goals as goal
+
+pub returns : goal.returns
+returns c =
+    let s = c.before.before.before.before.before.before.before in
+    lighting_made (words (given s.args.block.now s.args.bytes.now)) _ _ _ _ _
+    c.options_of-options.ensures
+    c.lookups_of-lookups.ensures
+    c.light_count.ensures
+    c.plain_vector.ensures

@@ -1,0 +1,38 @@
+-- `light::light_of` meets its contract: each part is what the call that makes it ensures.
+use Prim.Native.Nat.{ℕ}
+use native.Mathlib.Omega.{arith}
+use mathlib.Core.Path.{ap, ◌∙◌}
+use Rattle.sources.specs.Steps.{given}
+use Rattle.block.specs.Block.{words, from, block_light}
+use Rattle.block_reading.proofs.light.LightMade.{vector_from, vector_first, numbered, light_made}
+use Rattle.block_reading.proofs.light.light_of.Goals as goal
+
+pub distance_of-requires : goal.distance_of-requires
+distance_of-requires c =
+    let s = c.before.before.before.before.before.before.before.before in
+    (s.requires.0, omega (arith, s.slot_at-at.ensures, s.requires.1))
+
+pub overflow_add-at-8 : goal.overflow_add-at-8
+overflow_add-at-8 c = let s = c.before.before.before.before.before.before.before.before.before in omega (arith, s.slot_at-at.ensures, s.requires.1)
+
+pub word-requires : goal.word-requires
+word-requires c = let s = c.before.before.before.before.before.before.before.before.before in omega (arith, s.slot_at-at.ensures, s.requires.1)
+
+pub returns : goal.returns
+returns c =
+    let s = c.before.before.before.before.before.before.before.before.before.before.before.before.before.before in
+    let w = words (given s.args.block.now s.args.bytes.now) in
+    let first = c.before.before.before.before.before.before.before.before.before.before.before in
+    let at = first.slot_at-at.result in
+    light_made (from w at) _ _ _ _ _ _ _ _ _ _
+    (c.plain_vector.ensures ∙ vector_first w at)
+    (c.plain_vector-2.ensures ∙ vector_from w at 4)
+    (c.plain_vector-3.ensures ∙ vector_from w at 8)
+    (c.plain_vector-4.ensures ∙ vector_from w at 12)
+    (c.plain_vector-5.ensures ∙ vector_from w at 16)
+    (c.plain_vector-6.ensures ∙ vector_from w at 20)
+    (c.plain_vector-7.ensures ∙ vector_from w at 24)
+    c.distance_of.ensures
+    (c.light_number.ensures ∙ ap numbered c.word.ensures)
+    c.word-flags.ensures
+    ∙ ap (λ (i : ℕ). block_light (from w i)) first.slot_at-at.ensures

@@ -1,0 +1,13 @@
+-- `block_reading::lighting_of` meets its contract: the lighting with the lights that the slots have.
+use mathlib.Core.Path.{ap, ◌∙◌}
+use mathlib.Core.List.{List}
+use Rattle.sources.specs.Steps.{given}
+use Rattle.lighting.specs.declared.Light.{Light}
+use Rattle.block.specs.Block.{words, block_lighting_with, block_lighting}
+use Rattle.block_reading.proofs.lighting_of.Goals as goal
+
+pub returns : goal.returns
+unfolding block_lighting
+returns c =
+    let s = c.before.before.before.before in
+    c.lighting_with.ensures ∙ ap (λ (l : List Light). block_lighting_with (words (given s.args.block.now s.args.bytes.now)) l) c.lights_of-lights.ensures
