@@ -2,6 +2,7 @@
 // there is room for, `slots` which light each slot holds, `light_fields` and `lights` a light, `table_lookups` how each table is read, `bump_shadow`, `needs` what half and
 // view are needed for, `register_lighting` all of it; `registers_read` the words that are kept of a file.
 #![tactic(auto)]
+
 mod bump_shadow;
 mod configuration;
 mod light_fields;

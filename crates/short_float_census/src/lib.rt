@@ -1,6 +1,7 @@
 // How many patterns of a short float end as zero, infinity, NaN or another number, for the widths that a modeller may choose. `census` works the totals out;
 // `counting` visits every pattern, through the function that decodes it, and comes to the same.
 #![tactic(auto)]
+
 pub mod counting;
 
 ghost use Rattle.std.specs.Prelude.{◌≡◌};

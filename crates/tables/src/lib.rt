@@ -1,6 +1,7 @@
 // The tables and what their calls answer: the register write, with the upload of table data, is in `registers`, a list of writes in `lists`, restore and save in
 // `copies`, what an entry gives in `entries`.
 #![tactic(auto)]
+
 pub mod copies;
 pub mod entries;
 pub mod lists;
