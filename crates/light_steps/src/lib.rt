@@ -2,6 +2,7 @@
 // `places` where one lookup is read, `distance` and `readings` where all are, `entries` what stands there; `values` makes of the entries what the lookups say, `terms` the light's terms of
 // them, `contribution` the sums with these. `types` is what one step passes to the next.
 #![tactic(auto)]
+
 mod contribution;
 mod distance;
 mod entries;

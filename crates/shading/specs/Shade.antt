@@ -143,7 +143,7 @@ module _ (self : Lighting) (tables : List ℕ) (view normal tangent normView sha
       let specular0 = three (λ i. at light.specular0 i ⊗ distribution0) in
       let specular1 = three (λ i. distribution1 ⊗ at reflect i ⊗ at light.specular1 i) in
       -- only the last slot lit applies fresnel, to each alpha whose flag is set
-      let last = (slot.0 + 1 == self).light_count in
+      let last = slot.0 + 1 == self.light_count in
       let fresnel : Float → Float = λ alpha. map_or self.fresnel alpha (λ lookup. value lookup table_fresnel) in
       let diffuseAlpha = if last && self.fresnel_primary then fresnel (at diffuseSum 3) else at diffuseSum 3 in
       let specularAlpha = if last && self.fresnel_secondary then fresnel (at specularSum 3) else at specularSum 3 in

@@ -1,5 +1,6 @@
 // The shading of a fragment from a lighting: `parts` has what it takes of the lighting, `sums` the lights one after another, `channels` and `answer_words` how the sums end.
 #![tactic(auto)]
+
 pub mod answer_words;
 mod channels;
 pub mod parts;

@@ -1,6 +1,7 @@
 // A unit's cache, fresh or read anew, and what a cached read and a hand-over answer. `reading` is the cached read, `taking` what a copy takes, `handing_over` the hand-over,
 // all three on a cache by value; `lent` has the calls on a cache that is lent words, which a renderer links.
 #![tactic(auto)]
+
 pub mod handing_over;
 pub mod lent;
 pub mod reading;

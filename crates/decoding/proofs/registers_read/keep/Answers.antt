@@ -22,8 +22,8 @@ loop-j-preserved c =
       omega arith,
       omega arith,
       simp length-set l.invariant.2,
-      l.invariant.3 ∙ sym (get_or-set_other l.auto l.j 0 (get_or f (0x13F + l.j) 0) 0 (λ e. omega arith)),
-      lights_more f l.auto l.j (omega arith) (omega arith) l.invariant.4,
+      l.invariant.3 ∙ sym (get_or-set_other l.kept l.j 0 (get_or f (0x13F + l.j) 0) 0 (λ e. omega arith)),
+      lights_more f l.kept l.j (omega arith) (omega arith) l.invariant.4,
     )
 
 pub bounds-kept-136 : goal.bounds-kept-136
@@ -42,4 +42,4 @@ pub returns : goal.returns
 returns c =
     let start = c.before.before.before.before.before.before.before.before in
     let l = c.loop-j in
-    stored_kept start.args.file.now l.auto start.requires.0 l.invariant.2 l.invariant.3 (λ x h. l.invariant.4 x (omega arith))
+    stored_kept start.args.file.now l.kept start.requires.0 l.invariant.2 l.invariant.3 (λ x h. l.invariant.4 x (omega arith))

@@ -27,10 +27,10 @@ room m e k h =
     let sum = whole m e k in
     record { zeros = omega arith; infinities = omega arith; nans = omega arith; numbers = omega arith }
 
-widths : (c : goal.Else-not-counted → ShortWidths c.args.mantissa c.args.exponent
+widths : (c : goal.Else-not-counted) → ShortWidths c.args.mantissa c.args.exponent
 widths c = counted_widths _ _ (rw (← c.counted.ensures) (c.if-not-counted.false))
 
-few : (c : goal.After-power-patterns → c.power-patterns.result ≤ 1048576
+few : (c : goal.After-power-patterns) → c.power-patterns.result ≤ 1048576
 few c =
     let w = widths c.before in
     rw c.power-patterns.ensures.0 (pow_mono {j = 20} (omega arith))

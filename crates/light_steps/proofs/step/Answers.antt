@@ -1,0 +1,42 @@
+-- `light_steps::step` meets its contract: each operation and call is the definition's, in its order. A light that reads no table has 1 for each value, reads the
+-- half vector only with a geometric flag, and has no fresnel lookup that could be applied.
+use mathlib.Core.Path.{◌≡◌, refl, sym, ap, ◌∙◌}
+use mathlib.Core.Bool.{false}
+use Rattle.sources.specs.Steps.{given}
+use Rattle.surface.specs.declared.Directions.{Directions}
+use Rattle.light_steps.specs.Steps.{unread, reads_tables, with_values, step_of}
+use Rattle.surface.specs.Steps.{directions_of}
+use Rattle.light_steps.specs.ReadingsLaws.{read_none, none_applied}
+use Rattle.light_steps.proofs.Rays.{directions_is, distance_is, unread_is}
+use Rattle.light_steps.proofs.step.Goals as goal
+
+pub values_of-values-requires : goal.values_of-values-requires
+values_of-values-requires c =
+    let d = c.before.before.before.before.before in
+    let s = d.before.before.before.before.before.before.before in
+    (s.requires.0, s.requires.1, distance_is (given s.args.tables.now s.args.bytes.now) s.args.light s.args.frame.view _ _ d.ray_to-ray.ensures d.distance_of-distance.ensures)
+
+pub returns-then-reads_tables : goal.returns-then-reads_tables
+unfolding step_of
+returns-then-reads_tables c =
+    let d = c.before.before.before.before.before.before.before in
+    let s = d.before.before.before.before.before.before.before in
+    simp
+    (c.with_values.ensures, c.values_of-values.ensures, c.both-applied.ensures, c.present.ensures, directions_is s.args.light s.args.frame s.args.lookups.needs_half _ _ d.ray_to-ray.ensures c.directions_of-directions.ensures)
+
+pub returns-else-reads_tables : goal.returns-else-reads_tables
+unfolding step_of
+returns-else-reads_tables c =
+    let d = c.before.before.before.before in
+    let s = d.before.before.before.before.before.before.before in
+    let a = s.args in
+    let none : reads_tables a.lookups a.light ≡ false = sym c.reads_tables.ensures ∙ c.if-reads_tables.false in
+    c.with_unread.ensures
+    ∙ ap (λ (x : Directions). with_values a.sums a.light a.frame.normal x (unread d.distance_of-distance.result) a.settings false) c.unread_directions-directions.ensures
+    ∙ unread_is a.sums a.light a.frame.normal d.ray_to-ray.result.vector a.frame a.lookups.needs_half (unread d.distance_of-distance.result) a.settings false
+    ∙ simp (
+      directions_is a.light a.frame a.lookups.needs_half _ _ d.ray_to-ray.ensures refl,
+      distance_is (given a.tables.now a.bytes.now) a.light a.frame.view _ _ d.ray_to-ray.ensures d.distance_of-distance.ensures,
+      read_none (given a.tables.now a.bytes.now) a.lookups a.frame (directions_of a.light a.frame a.lookups.needs_half) a.light a.last s.requires.1 none,
+      none_applied a.lookups a.light a.last none,
+    )

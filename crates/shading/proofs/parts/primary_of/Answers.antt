@@ -1,0 +1,11 @@
+-- `shadow::primary_of` meets its contract: each operation and call is the definition's, in its order.
+use Rattle.shading.specs.Steps.{primary_of}
+use Rattle.shading.proofs.parts.primary_of.Goals as goal
+
+pub returns-in-Unshadowed : goal.returns-in-Unshadowed
+unfolding primary_of
+returns-in-Unshadowed c = simp c.in-Unshadowed.is
+
+pub returns-in-Shadowed : goal.returns-in-Shadowed
+unfolding primary_of
+returns-in-Shadowed c = simp c.in-Shadowed.is

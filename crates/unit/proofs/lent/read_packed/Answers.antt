@@ -1,0 +1,18 @@
+-- `lent::read_packed` meets its contract: each wrong length is refused as the definition refuses it, and past them the reading is put.
+use borrow.Author.Tests.{lt-leb, le-leb, eq-eqb, ne_eqb}
+use Rattle.refusals.specs.Refusals.{file_refusal, block_refusal}
+use Rattle.unit.specs.Unit.{read_packed_if}
+use Rattle.unit.proofs.lent.read_packed.Goals as goal
+
+pub returns-then-file-lt474 : goal.returns-then-file-lt474
+unfolding read_packed_if file_refusal
+returns-then-file-lt474 c = simp (lt-leb 474 _ c.if-file-lt474.true)
+
+pub returns-then-block-ne328 : goal.returns-then-block-ne328
+unfolding read_packed_if file_refusal block_refusal
+returns-then-block-ne328 c = simp (le-leb 474 _ c.if-file-lt474.false, ne_eqb _ 328 c.if-block-ne328.true)
+
+pub returns : goal.returns
+unfolding read_packed_if file_refusal block_refusal
+returns c =
+    simp (le-leb 474 _ c.if-file-lt474.false, eq-eqb _ 328 c.if-block-ne328.false, c.put_reading.ensures.0, c.put_reading.ensures.1)
