@@ -33,7 +33,7 @@ fn link(here: &Path) {
         println!("cargo:rerun-if-changed={}", archive.display());
         if !archive.is_file() {
             eprintln!("The proved code for comparisons is not there: {} is missing.", archive.display());
-            eprintln!("Make it with `rt staticlib {name}` in the repository's top folder,");
+            eprintln!("Make it with `host/archives {name}` in the repository's top folder,");
             eprintln!("or name the folder that has it in the environment variable {FOLDER}.");
             exit(1);
         }

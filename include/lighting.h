@@ -1,6 +1,6 @@
 /*
  * Fragment lighting, from register writes to two colours: the calls of the proved library liblighting_abi.a, which
- * `rt staticlib lighting_abi` makes in target/staticlib. It needs nothing but memcpy and memset.
+ * `host/archives lighting_abi` makes in target/staticlib. It needs nothing but memcpy and memset.
  *
  * A unit is a register file, tables, a generation and a cache; a copy is a block, tables and a generation. The caller
  * owns them all, as plain arrays and numbers; fresh is all zero. A hand-over brings the copy, from which the hardware

@@ -19,7 +19,7 @@ fn main() {
     println!("cargo:rerun-if-changed={}", archive.display());
     if !archive.is_file() {
         eprintln!("The proved lighting code is not there: {} is missing.", archive.display());
-        eprintln!("Make it with `rt staticlib lighting_abi` in the repository's top folder,");
+        eprintln!("Make it with `host/archives lighting_abi` in the repository's top folder,");
         eprintln!("or name the folder that has it in the environment variable {FOLDER}.");
         exit(1);
     }

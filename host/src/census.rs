@@ -51,8 +51,8 @@ pub fn visited(mantissa: u32, exponent: u32) -> Totals {
 
 /// What the program prints, on its standard output and its standard error.
 pub fn printed(arguments: &[&str]) -> (String, String) {
-    let program = Path::new(env!("CARGO_MANIFEST_DIR")).join("../target/bin/census");
-    let run = Command::new(program).args(arguments).output().expect("target/bin/census, which `rt check census` makes");
+    let program = Path::new(env!("CARGO_MANIFEST_DIR")).join("../crates/census/out/census");
+    let run = Command::new(program).args(arguments).output().expect("crates/census/out/census, which `rt run` in crates/census makes");
     assert!(run.status.success(), "{arguments:?}: {}", run.status);
     let text = |bytes| String::from_utf8(bytes).expect("ASCII");
     (text(run.stdout), text(run.stderr))

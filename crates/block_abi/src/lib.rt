@@ -1,6 +1,7 @@
 // Decoding with packing, and the check of a block, under plain names, for the host's comparisons, which block_abi_c exports: a library for tests alone.
 // Each call returns document 01's number, 0 where it is done and 100 where the lighting is off.
 #![tactic(auto)]
+
 ghost use Rattle.std.specs.Prelude.{◌≡◌};
 ghost use Rattle.block.specs.Block.{packing as packing_as};
 ghost use Rattle.block_abi.specs.PackFile.{pack_reading, pack_file};

@@ -1,7 +1,5 @@
 // Replays a list of register files, and compares the block of each with the Rust module's: how many there were and how many differ, and each difference.
 #![tactic(auto)]
-use libc::STDOUT_FILENO;
-
 // How many files were replayed, and how many of those differ.
 #[derive(Clone, Copy)]
 struct Count {
@@ -38,27 +36,19 @@ fn rest_of(words: &[u32], at: usize) -> &[u32] {
     }
 }
 
-fn print_difference(file: u64, at: usize, got: u32, wanted: u32) {
-    io::write_all(STDOUT_FILENO, b"file ");
-    io::print_decimal(STDOUT_FILENO, file);
-    io::write_all(STDOUT_FILENO, b", word ");
-    io::print_decimal(STDOUT_FILENO, at as u64);
-    io::write_all(STDOUT_FILENO, b" is ");
-    io::print_hex(STDOUT_FILENO, got as u64, 8);
-    io::write_all(STDOUT_FILENO, b" and not ");
-    io::print_hex(STDOUT_FILENO, wanted as u64, 8);
-    io::write_all(STDOUT_FILENO, b"\n");
+fn print_difference(rt: &impl Print, file: u64, at: usize, got: u32, wanted: u32) {
+    let _ = println!(rt; "file {file}, word {at} is {got:08x} and not {wanted:08x}");
 }
 
 // Whether two blocks differ; prints each word that does.
-fn differ(file: u64, block: &[u32], wanted: &[u32]) -> bool {
+fn differ(rt: &impl Print, file: u64, block: &[u32], wanted: &[u32]) -> bool {
     let mut found = false;
     let mut i = 0;
     while i < 328 {
         let got = word_of(block, i);
         let due = word_of(wanted, i);
         if got != due {
-            print_difference(file, i, got, due);
+            print_difference(rt, file, i, got, due);
             found = true;
         }
         i += 1;
@@ -73,6 +63,7 @@ fn more(n: u64) -> u64 {
 
 // One file: the number that is due, its registers, and the words of its block that aren't zero. An off file's block stays zero.
 fn replay_file(
+    rt: &impl Print,
     number: u32,
     registers: &[u32],
     n: u32,
@@ -87,9 +78,9 @@ fn replay_file(
     put_pairs(&mut wanted, places, m);
     let files = more(count.files);
     let got = block_abi::block_pack(&file, &mut block);
-    let mut found = differ(files, &block, &wanted);
+    let mut found = differ(rt, files, &block, &wanted);
     if got != number {
-        print_difference(files, 328, got, number);
+        print_difference(rt, files, 328, got, number);
         found = true;
     }
     if found {
@@ -105,7 +96,7 @@ fn replay_file(
 }
 
 // Every file of the list.
-fn replay(words: &[u32]) -> Count {
+fn replay(rt: &impl Print, words: &[u32]) -> Count {
     let mut count = Count {
         files: 0,
         differ: 0,
@@ -117,6 +108,7 @@ fn replay(words: &[u32]) -> Count {
         let after = 2 + 2 * n as usize;
         let m = word_of(here, after);
         count = replay_file(
+            rt,
             word_of(here, 0),
             rest_of(here, 2),
             n,
@@ -129,12 +121,11 @@ fn replay(words: &[u32]) -> Count {
     count
 }
 
-fn main() {
+fn main(rt: HostRuntime) {
     let mut words = [0u32; 16384];
-    let size = word_text::load_file(b"files.txt", &mut words);
-    let count = replay(&words[..size]);
-    io::print_decimal(STDOUT_FILENO, count.files);
-    io::write_all(STDOUT_FILENO, b" files replayed, ");
-    io::print_decimal(STDOUT_FILENO, count.differ);
-    io::write_all(STDOUT_FILENO, b" differ\n");
+    let size = word_text::load_file(&rt, b"files.txt", &mut words);
+    let count = replay(&rt, &words[..size]);
+    let files = count.files;
+    let differ = count.differ;
+    let _ = println!(rt; "{files} files replayed, {differ} differ");
 }

@@ -1,6 +1,7 @@
 // Block shading: fragments shaded from a block and the tables alone, as a renderer that has only the copy does it. `fragments` has a fragment's 23 words, `slots` the
 // shading itself, a light at a time.
 #![tactic(auto)]
+
 mod fragments;
 pub mod slots;
 

@@ -66,9 +66,9 @@ fn sum_slots(
     settings: Settings,
     count: usize,
 ) -> Sums
-    requires block_bytes_len { (length (given block.now block_bytes.now) ≡ 328) × (length (given tables.now table_bytes.now) ≡ 12288) }
-    requires block_bytes_value { (well_formed (words (given block.now block_bytes.now)) ≡ true) × (count ≡ words (given block.now block_bytes.now) 1) }
-    requires block_bytes_value_2 { plain ≡ true → nan_free (words (given block.now block_bytes.now)) ≡ true }
+    requires lengths { (length (given block.now block_bytes.now) ≡ 328) × (length (given tables.now table_bytes.now) ≡ 12288) }
+    requires formed { (well_formed (words (given block.now block_bytes.now)) ≡ true) × (count ≡ words (given block.now block_bytes.now) 1) }
+    requires plain_marks { plain ≡ true → nan_free (words (given block.now block_bytes.now)) ≡ true }
     ensures { result ≡ sums_by (given tables.now table_bytes.now) lookups frame settings (block_lights (words (given block.now block_bytes.now))) count count }
 {
     let mut sums = Sums {
@@ -107,9 +107,9 @@ fn shade_one(
     head: Lighting,
     unit: [f32; 4],
 ) -> [u32; 8]
-    requires block_bytes_len { (length (given block.now block_bytes.now) ≡ 328) × (length (given tables.now table_bytes.now) ≡ 12288) × (at + 23 ≤ length (given fragments.now fragment_bytes.now)) × (at + 23 < 0x10000000000000000) }
-    requires block_bytes_value { (well_formed (words (given block.now block_bytes.now)) ≡ true) × (head ≡ head_of (words (given block.now block_bytes.now))) }
-    requires block_bytes_value_2 { (plain ≡ true → nan_free (words (given block.now block_bytes.now)) ≡ true) × (unit ≡ unit_quaternion (quaternion_of (drop at (given fragments.now fragment_bytes.now)))) }
+    requires lengths { (length (given block.now block_bytes.now) ≡ 328) × (length (given tables.now table_bytes.now) ≡ 12288) × (at + 23 ≤ length (given fragments.now fragment_bytes.now)) × (at + 23 < 0x10000000000000000) }
+    requires formed { (well_formed (words (given block.now block_bytes.now)) ≡ true) × (head ≡ head_of (words (given block.now block_bytes.now))) }
+    requires plain_marks { (plain ≡ true → nan_free (words (given block.now block_bytes.now)) ≡ true) × (unit ≡ unit_quaternion (quaternion_of (drop at (given fragments.now fragment_bytes.now)))) }
     ensures { result ≡ eight_of (block_lighting (words (given block.now block_bytes.now))) (given tables.now table_bytes.now) (drop at (given fragments.now fragment_bytes.now)) }
 {
     let frame = frame_of(head, fragments, fragment_bytes, at, unit);
@@ -158,9 +158,9 @@ pub fn shade_each(
     plain: bool,
     answers: &mut [u32],
 )
-    requires block_bytes_len { (length (given block.now block_bytes.now) ≡ 328) × (length (given tables.now table_bytes.now) ≡ 12288) × (count ≡ length (given fragments.now fragment_bytes.now) / 23) × (length (given fragments.now fragment_bytes.now) < 0x10000000000000000) × (length answers.old ≡ 8 * count) }
-    requires block_bytes_value { well_formed (words (given block.now block_bytes.now)) ≡ true }
-    requires block_bytes_value_2 { (plain ≡ true → nan_free (words (given block.now block_bytes.now)) ≡ true) × (0 < count → first ≡ unit_quaternion (quaternion_of (given fragments.now fragment_bytes.now))) }
+    requires lengths { (length (given block.now block_bytes.now) ≡ 328) × (length (given tables.now table_bytes.now) ≡ 12288) × (count ≡ length (given fragments.now fragment_bytes.now) / 23) × (length (given fragments.now fragment_bytes.now) < 0x10000000000000000) × (length answers.old ≡ 8 * count) }
+    requires formed { well_formed (words (given block.now block_bytes.now)) ≡ true }
+    requires plain_marks { (plain ≡ true → nan_free (words (given block.now block_bytes.now)) ≡ true) × (0 < count → first ≡ unit_quaternion (quaternion_of (given fragments.now fragment_bytes.now))) }
     ensures { answers.new ≡ eight_of_each (block_lighting (words (given block.now block_bytes.now))) (given tables.now table_bytes.now) (length (given fragments.now fragment_bytes.now) / 23) (given fragments.now fragment_bytes.now) }
 {
     let head = head_of(block, block_bytes, plain);

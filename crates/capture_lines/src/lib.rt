@@ -1,6 +1,7 @@
 // The lines that a capture's fragments print, from the copy's block and tables: each is what block shading answers. The block is checked once for all of them: `unlit` has
 // the lines where it colours none, `lit` those that it colours; they are called from here.
 #![tactic(auto)]
+
 mod lit;
 mod unlit;
 

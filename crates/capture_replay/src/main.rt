@@ -1,8 +1,7 @@
 // Runs a list of captures and writes what each prints, under its number. The file `stdout` has the Rust module's lines.
 #![tactic(auto)]
-ghost use Rattle.std.specs.Prelude.{◌+◌, ◌<◌, ◌≤◌, length};
 
-use libc::STDOUT_FILENO;
+ghost use Rattle.std.specs.Prelude.{◌+◌, ◌<◌, ◌≤◌, length};
 
 // What the words of the list say of the capture that is being put together.
 const WORDS: u32 = 0;
@@ -85,20 +84,18 @@ fn make_words(input: &mut [u8], at: usize, kind: u32, count: u32, seed: u32) -> 
     size
 }
 
-fn run(input: &[u8], number: u64) {
+fn run(rt: &impl Print, input: &[u8], number: u64) {
     let mut output = [0u8; 22784];
     let answer = capture::run_capture(input, &mut output);
     let size = capture_calls::printed_size(answer, 0);
-    io::write_all(STDOUT_FILENO, b"capture ");
-    io::print_decimal(STDOUT_FILENO, number);
-    io::write_all(STDOUT_FILENO, b"\n");
-    io::write_all(STDOUT_FILENO, &output[..size]);
+    let _ = println!(rt; "capture {number}");
+    let _ = rt.write_all(&output[..size]);
 }
 
 // The first `size` bytes.
-fn run_first(input: &[u8], size: usize, number: u64) {
+fn run_first(rt: &impl Print, input: &[u8], size: usize, number: u64) {
     if size <= input.len() {
-        run(&input[..size], number);
+        run(rt, &input[..size], number);
     }
 }
 
@@ -108,7 +105,7 @@ fn more(n: u64) -> u64 {
 }
 
 // One entry of the list.
-fn step(words: &[u32], input: &mut [u8], place: Place) -> Place
+fn step(rt: &impl Print, words: &[u32], input: &mut [u8], place: Place) -> Place
     requires { place.next < length words.now }
     ensures { place.next < result.next }
 {
@@ -117,7 +114,7 @@ fn step(words: &[u32], input: &mut [u8], place: Place) -> Place
     let count = word_of(words, at + 1);
     if kind == RUN {
         let ran = more(place.ran);
-        run_first(input, count as usize, ran);
+        run_first(rt, input, count as usize, ran);
         return Place {
             size: 0,
             next: at + 2,
@@ -139,23 +136,22 @@ fn step(words: &[u32], input: &mut [u8], place: Place) -> Place
 }
 
 // The whole list, each capture being put together in `input`; how many there were.
-fn replay(words: &[u32], input: &mut [u8]) -> u64 {
+fn replay(rt: &impl Print, words: &[u32], input: &mut [u8]) -> u64 {
     let mut place = Place {
         size: 0,
         next: 0,
         ran: 0,
     };
     while place.next < words.len() {
-        place = step(words, input, place);
+        place = step(rt, words, input, place);
     }
     place.ran
 }
 
-fn main() {
+fn main(rt: HostRuntime) {
     let mut words = [0u32; 32768];
-    let size = word_text::load_file(b"captures.txt", &mut words);
+    let size = word_text::load_file(&rt, b"captures.txt", &mut words);
     let mut input = [0u8; 66560];
-    let ran = replay(&words[..size], &mut input);
-    io::print_decimal(STDOUT_FILENO, ran);
-    io::write_all(STDOUT_FILENO, b" captures\n");
+    let ran = replay(&rt, &words[..size], &mut input);
+    let _ = println!(rt; "{ran} captures");
 }

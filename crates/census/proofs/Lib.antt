@@ -1,2 +1,3 @@
--- The case that is computed.
+-- What a byte of an argument does, and the case that is computed.
+mod Digits
 mod Examples

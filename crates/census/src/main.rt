@@ -1,11 +1,14 @@
 // Counts what the patterns of a short float end as, by visiting every one of them, and prints the four totals on a line: zeros, infinities, NaNs and other
 // numbers. Without arguments it counts the half; with two, a mantissa's and an exponent's width, the float of these. All that counts is the library's.
 #![tactic(auto)]
+
 ghost use Rattle.std.specs.Prelude.{◌≡◌, min};
 ghost use Rattle.census.specs.Arguments.{width_of};
 
-use libc::{STDERR_FILENO, STDOUT_FILENO};
 use short_float_census::Totals;
+use std::env::FillError;
+use std::io;
+use std::rt::Env;
 
 // What an argument says: a width, or nothing that can be read as one.
 #[derive(Clone, Copy)]
@@ -44,66 +47,71 @@ fn width_of(text: &[u8]) -> Width
     Width::Of(n)
 }
 
-fn argument(i: usize) -> Width {
-    let mut text = io::buffer();
-    let n = os::arg(i, &mut text);
-    width_of(&text[..n])
-}
-
-// A total and the byte after it; false where they cannot be written.
-fn print_total(total: u32, after: &[u8]) -> bool {
-    if !io::print_decimal(STDOUT_FILENO, total as u64) {
-        return false;
-    }
-    io::write_all(STDOUT_FILENO, after)
-}
-
-fn print_line(totals: Totals) -> bool {
-    if !print_total(totals.zeros, b" ") {
-        return false;
-    }
-    if !print_total(totals.infinities, b" ") {
-        return false;
-    }
-    if !print_total(totals.nans, b" ") {
-        return false;
-    }
-    print_total(totals.numbers, b"\n")
-}
-
-fn print_census(mantissa: u32, exponent: u32) {
-    if !print_line(short_float_census::counting::count(mantissa, exponent)) {
-        os::fail(b"standard output");
+fn argument(rt: &impl Env, i: usize) -> Width {
+    let mut text = [0u8; 4096];
+    match rt.arg(i, &mut text) {
+        Ok(n) => width_of(&text[..n]),
+        Err(_) => Width::Unread,
     }
 }
 
-fn print_usage() {
-    io::write_all(
-        STDERR_FILENO,
-        b"usage: census [MANTISSA EXPONENT]     (widths in bits; 1 to 12 and 2 to 7 are counted)\n",
+fn is_given(rt: &impl Env, i: usize) -> bool {
+    let mut text = [0u8; 4096];
+    match rt.arg(i, &mut text) {
+        Ok(_) => true,
+        Err(FillError::TooLong) => true,
+        Err(FillError::NotPresent) => false,
+    }
+}
+
+// A total and the byte after it.
+fn print_total(rt: &impl Print, total: u32, after: &[u8]) -> io::Result<()> {
+    rt.print(total)?;
+    rt.write_all(after)
+}
+
+fn print_line(rt: &impl Print, totals: Totals) -> io::Result<()> {
+    print_total(rt, totals.zeros, b" ")?;
+    print_total(rt, totals.infinities, b" ")?;
+    print_total(rt, totals.nans, b" ")?;
+    print_total(rt, totals.numbers, b"\n")
+}
+
+fn print_census(rt: &(impl Print + Eprint), mantissa: u32, exponent: u32) {
+    let totals = short_float_census::counting::count(mantissa, exponent);
+    match print_line(rt, totals) {
+        Ok(()) => {}
+        Err(e) => {
+            let _ = eprintln!(rt; "standard output: {e}");
+        }
+    }
+}
+
+fn print_usage(rt: &impl Eprint) {
+    let _ = rt.eprint(
+        "usage: census [MANTISSA EXPONENT]     (widths in bits; 1 to 12 and 2 to 7 are counted)\n",
     );
 }
 
 // The census of the widths that the two arguments say.
-fn print_asked() {
-    let Width::Of(mantissa) = argument(1) else {
-        print_usage();
+fn print_asked(rt: &(impl Env + Print + Eprint)) {
+    let Width::Of(mantissa) = argument(rt, 1) else {
+        print_usage(rt);
         return;
     };
-    let Width::Of(exponent) = argument(2) else {
-        print_usage();
+    let Width::Of(exponent) = argument(rt, 2) else {
+        print_usage(rt);
         return;
     };
-    print_census(mantissa, exponent);
+    print_census(rt, mantissa, exponent);
 }
 
-fn main() {
-    let words = os::arg_count();
-    if words <= 1 {
-        print_census(10, 5);
-    } else if words == 3 {
-        print_asked();
+fn main(rt: HostRuntime) {
+    if !is_given(&rt, 1) {
+        print_census(&rt, 10, 5);
+    } else if is_given(&rt, 2) && !is_given(&rt, 3) {
+        print_asked(&rt);
     } else {
-        print_usage();
+        print_usage(&rt);
     }
 }

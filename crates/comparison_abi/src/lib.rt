@@ -1,5 +1,6 @@
 // The float operations under plain names, for the host's comparisons with rustc's own: a library for tests alone.
 #![tactic(auto)]
+
 ghost use Rattle.std.specs.Prelude.{◌≡◌, [], ◌∷◌, ◌%◌, get_or};
 ghost use Rattle.std.specs.Float.{nan};
 ghost use Rattle.binary32.specs.Binary32.{float_of, word_of, magnitude_of, max_of, min_of, clamp_of, floor_of, unsigned_place_of, signed_place_of, quantized_of};

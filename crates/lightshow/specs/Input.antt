@@ -6,4 +6,4 @@ use Rattle.lightshow.specs.declared.Input.TheVariants.{Read, Failed}
 -- so many bytes lie within the buffer, of which they are the first
 abbrev pub Within : Input → List ℕ → Type 0
 Within (Read n) buffer = (n ≤ length buffer) × (n ≡ length (take n buffer))
-Within Failed buffer = Unit {0}
+Within (Failed e) buffer = Unit {0}

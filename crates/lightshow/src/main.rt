@@ -1,30 +1,32 @@
 // Reads a capture on standard input and writes what it prints. What it prints is worked out by the library call; this only passes it on.
 #![tactic(auto)]
+
 ghost use Rattle.std.specs.Prelude.{◌≡◌};
 ghost use Rattle.capture_calls.specs.Capture.{short_output, number_by, size_of};
 ghost use Rattle.lightshow.specs.Input.{Within};
 
 use capture_calls::Answer;
-use libc::{STDIN_FILENO, STDOUT_FILENO};
+use std::io;
+use std::io::Read;
 
 // What reading gives: so many bytes, or a read that failed.
-#[derive(Clone, Copy)]
+#[derive(Drop)]
 enum Input {
     Read(usize),
-    Failed,
+    Failed(io::Error),
 }
 
 // Reads until the buffer is full or the input ends.
-fn read_input(buf: &mut [u8]) -> Input
+fn read_input(rt: &impl io::Input, buf: &mut [u8]) -> Input
     ensures { Within result buf.new }
 {
+    let mut reader = rt.reader();
     let mut n = 0;
     while n < buf.len() {
-        let got = libc::read(STDIN_FILENO, &mut buf[n..]);
-        if got < 0 {
-            return Input::Failed;
-        }
-        let more = io::count(got, &buf[n..]);
+        let more = match reader.read(&mut buf[n..]) {
+            Ok(more) => more,
+            Err(e) => return Input::Failed(e),
+        };
         if more == 0 {
             return Input::Read(n);
         }
@@ -41,21 +43,27 @@ fn size_of(answer: Answer) -> usize
     capture_calls::printed_size(answer, 0)
 }
 
-fn show(input: &[u8]) {
+// Says on standard error what failed, and why.
+fn fail(rt: &impl Eprint, what: &str, error: io::Error) {
+    let _ = eprintln!(rt; "{what}: {error}");
+}
+
+fn show(rt: &(impl Print + Eprint), input: &[u8]) {
     let mut output = [0u8; 22784];
     let answer = capture::run_capture(input, &mut output);
     let size = size_of(answer);
-    if !io::write_all(STDOUT_FILENO, &output[..size]) {
-        os::fail(b"standard output");
+    match rt.write_all(&output[..size]) {
+        Ok(()) => {}
+        Err(e) => fail(rt, "standard output", e),
     }
 }
 
 // One byte more than a capture may have, so that too long an input is noticed.
-fn main() {
+fn main(rt: HostRuntime) {
     let mut input = [0u8; 65537];
-    let read = read_input(&mut input);
+    let read = read_input(&rt, &mut input);
     match read {
-        Input::Read(n) => show(&input[..n]),
-        Input::Failed => os::fail(b"standard input"),
+        Input::Read(n) => show(&rt, &input[..n]),
+        Input::Failed(e) => fail(&rt, "standard input", e),
     }
 }

@@ -1,8 +1,8 @@
 // Replays a list of writes and restores, and compares each answer with the Rust module's: how many calls there were and how many differ, and each difference.
 #![tactic(auto)]
+
 ghost use Rattle.std.specs.Prelude.{◌<◌};
 
-use libc::STDOUT_FILENO;
 use tables::Written;
 
 // The words of one call in the list: its kind, two arguments and the answer.
@@ -105,28 +105,25 @@ fn generation_after(written: Written, generation: u64) -> u64 {
     }
 }
 
-fn print_words(a: Answer) {
-    print_word(a.number);
-    print_word(a.index);
-    print_word(a.generation);
-    print_word(a.value);
-    print_word(a.step);
-    print_word(a.sum);
+fn print_words(rt: &impl Print, a: Answer) {
+    print_word(rt, a.number);
+    print_word(rt, a.index);
+    print_word(rt, a.generation);
+    print_word(rt, a.value);
+    print_word(rt, a.step);
+    print_word(rt, a.sum);
 }
 
-fn print_word(word: u32) {
-    io::write_all(STDOUT_FILENO, b" ");
-    io::print_hex(STDOUT_FILENO, word as u64, 8);
+fn print_word(rt: &impl Print, word: u32) {
+    let _ = print!(rt; " {word:08x}");
 }
 
-fn print_difference(at: u64, got: Answer, wanted: Answer) {
-    io::write_all(STDOUT_FILENO, b"call ");
-    io::print_decimal(STDOUT_FILENO, at);
-    io::write_all(STDOUT_FILENO, b" gives");
-    print_words(got);
-    io::write_all(STDOUT_FILENO, b" and not");
-    print_words(wanted);
-    io::write_all(STDOUT_FILENO, b"\n");
+fn print_difference(rt: &impl Print, at: u64, got: Answer, wanted: Answer) {
+    let _ = print!(rt; "call {at} gives");
+    print_words(rt, got);
+    let _ = rt.print(" and not");
+    print_words(rt, wanted);
+    let _ = rt.print("\n");
 }
 
 fn same(a: Answer, b: Answer) -> bool {
@@ -144,7 +141,13 @@ fn more(n: u64) -> u64 {
 }
 
 // The call that the words begin with.
-fn replay_call(file: &mut [u32], entries: &mut [u32], words: &[u32], count: Count) -> Count {
+fn replay_call(
+    rt: &impl Print,
+    file: &mut [u32],
+    entries: &mut [u32],
+    words: &[u32],
+    count: Count,
+) -> Count {
     let generation = count.generation;
     // tables 24 to 31 have no entry
     let named = (word_of(file, 0x1C5) % 0x2000) as usize * 2;
@@ -181,7 +184,7 @@ fn replay_call(file: &mut [u32], entries: &mut [u32], words: &[u32], count: Coun
             generation: after,
         };
     }
-    print_difference(calls, got, wanted);
+    print_difference(rt, calls, got, wanted);
     Count {
         calls: calls,
         differ: more(count.differ),
@@ -190,7 +193,7 @@ fn replay_call(file: &mut [u32], entries: &mut [u32], words: &[u32], count: Coun
 }
 
 // Every call of the list, on one unit.
-fn replay(file: &mut [u32], entries: &mut [u32], words: &[u32]) -> Count {
+fn replay(rt: &impl Print, file: &mut [u32], entries: &mut [u32], words: &[u32]) -> Count {
     let mut count = Count {
         calls: 0,
         differ: 0,
@@ -198,20 +201,19 @@ fn replay(file: &mut [u32], entries: &mut [u32], words: &[u32]) -> Count {
     };
     let mut at = 0;
     while at < words.len() {
-        count = replay_call(file, entries, &words[at..], count);
+        count = replay_call(rt, file, entries, &words[at..], count);
         at += CALL_WORDS;
     }
     count
 }
 
-fn main() {
+fn main(rt: HostRuntime) {
     let mut words = [0u32; 8192];
-    let size = word_text::load_file(b"calls.txt", &mut words);
+    let size = word_text::load_file(&rt, b"calls.txt", &mut words);
     let mut file = [0u32; 474];
     let mut entries = [0u32; 12288];
-    let count = replay(&mut file, &mut entries, &words[..size]);
-    io::print_decimal(STDOUT_FILENO, count.calls);
-    io::write_all(STDOUT_FILENO, b" calls replayed, ");
-    io::print_decimal(STDOUT_FILENO, count.differ);
-    io::write_all(STDOUT_FILENO, b" differ\n");
+    let count = replay(&rt, &mut file, &mut entries, &words[..size]);
+    let calls = count.calls;
+    let differ = count.differ;
+    let _ = println!(rt; "{calls} calls replayed, {differ} differ");
 }

@@ -1,10 +1,14 @@
 // Words written as text, eight hexadecimal digits each, which the replayed lists of data/ are made of: a library for tests alone.
 #![tactic(auto)]
+
 ghost use Rattle.std.specs.Prelude.{◌≡◌, ◌≤◌, length, take, drop, false};
+ghost use Rattle.std.specs.Counts.{IsPrefixLen};
 ghost use Rattle.word_text.specs.Text.{digit_of, digits_of, is_gap, in_remark, next_of};
 ghost use Rattle.word_text.specs.Load.{loaded, loaded_as, OfSomeText};
 
-use libc::STDOUT_FILENO;
+use std::fs;
+use std::io::Read;
+use std::rt::Files;
 
 // What stands next in a text.
 #[derive(Clone, Copy)]
@@ -16,6 +20,7 @@ enum Next {
 }
 
 // The digit that a byte writes, or 16.
+#[tactic(auto, unfolding(crate::specs::Text::digit_of))]
 fn digit(b: u8) -> u32
     ensures { (result ≡ digit_of b) × (result ≤ 16) }
 {
@@ -57,6 +62,7 @@ fn digits(text: &[u8], at: usize) -> Next
 }
 
 // Whether a byte stands between words: in a remark, or as its start, a space or a line's end.
+#[tactic(auto, unfolding(crate::specs::Text::is_gap))]
 fn is_gap(remark: bool, b: u8) -> bool
     ensures { result ≡ is_gap remark b }
 {
@@ -76,6 +82,7 @@ fn is_gap(remark: bool, b: u8) -> bool
 }
 
 // Whether the byte after it is in a remark.
+#[tactic(auto, unfolding(crate::specs::Text::in_remark))]
 fn in_remark(remark: bool, b: u8) -> bool
     ensures { result ≡ in_remark remark b }
 {
@@ -130,23 +137,55 @@ fn load(text: &[u8], out: &mut [u32]) -> usize
     n
 }
 
+// Reads until the buffer is full, the file ends or a read fails; how many bytes were put at its front.
+fn read_full(file: &mut impl Read, text: &mut [u8]) -> usize
+    ensures { IsPrefixLen result text.new }
+{
+    let mut n = 0;
+    while n < text.len() {
+        let Ok(more) = file.read(&mut text[n..]) else {
+            return n;
+        };
+        if more == 0 {
+            return n;
+        }
+        n += more;
+    }
+    n
+}
+
+// The file of this name, opened; where it can't be, a line on standard error says why.
+fn open<R: Files + Eprint>(rt: &R, name: &[u8]) -> Option<R::File> {
+    let name = match str::from_utf8(name) {
+        Ok(name) => name,
+        Err(e) => {
+            let _ = eprintln!(rt; "a file's name is no text: {e}");
+            return None;
+        }
+    };
+    match fs::open(rt, name) {
+        Ok(file) => Some(file),
+        Err(e) => {
+            let _ = eprintln!(rt; "{name}: {e}");
+            None
+        }
+    }
+}
+
 // The words of a file, so loaded; none, as of an empty text, where it can't be opened. One that is too long to be read whole is said to be. That they are the file's words is
 // told by what the programs print.
-pub fn load_file(name: &[u8], out: &mut [u32]) -> usize
+pub fn load_file(rt: &(impl Files + Print + Eprint), name: &[u8], out: &mut [u32]) -> usize
     ensures of_some_text { OfSomeText result out.old out.new }
     ensures upper_bound { (result ≤ length out.new) × (result ≡ length (take result out.new)) }
 {
-    let fd = os::open_read(name);
-    if fd < 0 {
-        os::fail(name);
+    let Some(mut file) = open(rt, name) else {
         return 0;
-    }
+    };
     let mut text = [0u8; 262144];
-    let n = io::read_full(fd, &mut text);
-    libc::close(fd);
+    let n = read_full(&mut file, &mut text);
     if n == 262144 {
-        io::write_all(STDOUT_FILENO, name);
-        io::write_all(STDOUT_FILENO, b" is too long to be read whole\n");
+        let _ = rt.write_all(name);
+        let _ = rt.write_all(b" is too long to be read whole\n");
     }
     load(&text[..n], out)
 }

@@ -10,7 +10,7 @@ use std::process::{Command, Stdio};
 /// A fragment's eight k, primary then secondary; `None` where the lighting is off.
 pub type Colours = Option<[u8; 8]>;
 
-/// Where lightshow is: the file that is given, or target/bin/lightshow of the repository that this program was built in.
+/// Where lightshow is: the file that is given, or crates/lightshow/out/lightshow of the repository that this program was built in.
 pub fn lightshow(given: Option<&Path>) -> Result<PathBuf, String> {
     if let Some(path) = given {
         // a path without a folder would be looked for among the system's programs
@@ -19,8 +19,8 @@ pub fn lightshow(given: Option<&Path>) -> Result<PathBuf, String> {
     }
     let built = env::current_exe().unwrap_or_default();
     let folders = built.ancestors().chain(Path::new(env!("CARGO_MANIFEST_DIR")).ancestors());
-    let found = folders.map(|folder| folder.join("target/bin/lightshow")).find(|path| path.is_file());
-    found.ok_or_else(|| "there is no target/bin/lightshow: run ./run once to prove and build it, or give --lightshow PATH".into())
+    let found = folders.map(|folder| folder.join("crates/lightshow/out/lightshow")).find(|path| path.is_file());
+    found.ok_or_else(|| "there is no crates/lightshow/out/lightshow: run ./run once to prove and build it, or give --lightshow PATH".into())
 }
 
 /// A scene's bodies without their fragments, up to the hand-over that is drawn: the one of this number, counted from 1, or without a

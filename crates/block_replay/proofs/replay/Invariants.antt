@@ -1,0 +1,9 @@
+-- Each file of the list has at least three words, so what is left of the list falls.
+use Rattle.std.proofs.Common.{◌-◌, ◌≤◌, length}
+use Rattle.block_replay.proofs.replay.Given as goal
+
+abbrev pub invariant-loop-at : goal.invariant-loop-at
+invariant-loop-at g l = 0 ≤ l.at
+
+abbrev pub decreases-loop-at : goal.decreases-loop-at
+decreases-loop-at g l = length l.words - l.at
