@@ -1,6 +1,7 @@
 // The exports of `block_abi` for the host's comparisons: C's names for its two calls, with the same promises. A crate of its own, since a
 // crate is a library or a static library, and the program `block_replay` uses the library.
 #![tactic(auto)]
+
 ghost use Rattle.std.specs.Prelude.{◌≡◌};
 ghost use Rattle.block.specs.Block.{packing as packing_as};
 ghost use Rattle.block_abi.specs.PackFile.{pack_file};

@@ -1,6 +1,7 @@
 // Document 01's calls on the structs under plain names, for the host's comparisons with the Rust module: a library for tests alone. A lighting and a cache by value
 // can't cross the C boundary, so each call here makes them, passes them on and gives words. `fragments` makes the arrays that shading takes.
 #![tactic(auto)]
+
 mod fragments;
 
 ghost use Rattle.std.specs.Prelude.{◌≡◌, length};
