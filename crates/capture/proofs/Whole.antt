@@ -92,11 +92,6 @@ module _ (input : List ℕ) where
     with_room q q' m i h f n =
         rw (le-leb (length (printed input)) (length q) h, f, i, size_is 0, size_is n, front_is, ap (λ (r : Captured). r.number) (e 0)) refl
 
--- what was copied of the front
-pub front_copied : (o' q q' : List ℕ) (m : ℕ) → m ≤ length o' → q' ≡ take (length (take m o')) (take m o') ++ drop (length (take m o')) q → q' ≡ take m o' ++ drop m q
-front_copied o' q q' m h e =
-    e ∙ ap (λ (l : List ℕ). l ++ drop (length (take m o')) q) (take-length (take m o')) ∙ ap (λ (n : ℕ). take m o' ++ drop n q) (length-take-le m o' h)
-
 -- the words that were read stand at the front of a longer array
 pub front_words : (z l w : List ℕ) (r : ℕ) → out l r ≡ puts (out z 0) w → r ≤ length l → length l ≡ length z → take r l ≡ w
 front_words z l w r e h k = put_front z l w r e (omega (arith, put_size z l w r e))

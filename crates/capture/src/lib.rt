@@ -1,6 +1,7 @@
 // The capture program's library call: the bytes that a capture prints, worked out from the bytes of the input. To be read from the call inwards, here and then `fresh`, a run on a
 // fresh unit and copy, and `bodies`, its bodies in order; one body is `capture_body`.
 #![tactic(auto)]
+
 mod bodies;
 mod fresh;
 

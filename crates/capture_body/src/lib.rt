@@ -1,5 +1,6 @@
 // The run of one body of a capture on a unit and a copy that are lent; `writes` has those that write. What is held beside their slices goes by value.
 #![tactic(auto)]
+
 mod writes;
 
 ghost use Rattle.std.specs.Prelude.{◌≡◌, ◌+◌, ◌*◌, ◌/◌, ◌≤◌, length};

@@ -32,9 +32,9 @@ pub loop-left-preserved : goal.loop-left-preserved
 unfolding next
 loop-left-preserved c =
     let a = c.args in
-    (search rules, search rules, pair a.file.now a.other.now a.tables.now a.first a.second c.loop-left.false _ _ _ (omega arith) c.hand_over-state.ensures c.hand_over-state-in-loop-left.ensures ∙ c.loop-left.invariant.2)
+    (search rules, search rules, pair a.file.now a.other.now a.tables.now a.first a.second c.loop-left.left _ _ _ (omega arith) c.hand_over-state.ensures c.hand_over-state-in-loop-left.ensures ∙ c.loop-left.invariant.2)
 
 pub returns : goal.returns
 returns c =
     let a = c.args in
-    ended a.file.now a.other.now a.tables.now a.first a.second c.loop-left.false _ _ (omega arith) c.outcome_number.ensures ∙ ap copy_of c.loop-left.invariant.2
+    ended a.file.now a.other.now a.tables.now a.first a.second c.loop-left.left _ _ (omega arith) c.outcome_number.ensures ∙ ap copy_of c.loop-left.invariant.2
