@@ -5,7 +5,7 @@ Entry k is k over 255, rounded once to the nearest binary32, a tie to the even o
 
     ../quotients/specs/Steps.antt    the list of 1,024 words, which the quotients' rule is proved of
     src/pairs.rt                     the match, whose arm i has the entries 2 i and 2 i + 1 in one word of 64 bits
-    proofs/pairs/pair/Proof.antt     that the match's arms are the list's pairs
+    proofs/pairs/pair/Answers.antt   that the match's arms are the list's pairs
 """
 import sys
 from pathlib import Path
@@ -36,8 +36,7 @@ PAIRS = [WORDS[2 * i] + (WORDS[2 * i + 1] << 32) for i in range(ARMS)]
 
 STEPS = """-- The quotients of a colour field, each field over 255, as binary32 words: the list that the code's table is held to. Written by colour_table/table.py.
 -- Nobody has to trust it: RuleLaws holds the whole list to the divisions. Definitions only.
-use Prim.Native.Nat.{ℕ}
-use mathlib.Core.List.{List, [], _∷_}
+use Rattle.std.specs.Prelude.{ℕ, List, [], ◌∷◌}
 
 unfoldable pub quotient_words : List ℕ
 quotient_words =
@@ -46,16 +45,14 @@ quotient_words =
 """
 
 MATCH = """// The constant table, written by table.py.
-ghost use mathlib.Core.Path.{_≡_};
-ghost use Prim.Native.Nat.{_<_};
-ghost use lib.ListN.{getD};
-ghost use Rattle·colour_table·specs.specs.Steps.{quotient_pairs};
+ghost use Rattle.std.specs.Prelude.{◌≡◌, ◌<◌, get_or};
+ghost use Rattle.colour_table.specs.Steps.{quotient_pairs};
 
 // The words of the fields 2 i, in the low half, and 2 i + 1. A match with one place that calls it becomes read-only data in that place; a constant array would be
 // stored to the stack at each use.
 pub(crate) fn pair(i: u32) -> u64
-    requires { ⌜ i < %d ⌝ }
-    ensures { λ r. ⌜ r ≡ getD quotient_pairs i 0 ⌝ }
+    requires { i < %d }
+    ensures { result ≡ get_or quotient_pairs i 0 }
 {
     match i {
 %s
@@ -63,33 +60,24 @@ pub(crate) fn pair(i: u32) -> u64
 }
 """
 
-PROOF = """-- `pairs::pair` meets its contract: the arm for i has the list's pair i, which the checker reads off the list, and the last arm is reached by the last i alone.
+ANSWERS = """-- `pairs::pair` meets its contract: the arm for i has the list's pair i, which the checker reads off the list, and the last arm is reached by the last i alone.
 -- Written by table.py. Assumes nothing.
-use Rattle·quotients.specs.Steps.{quotient_words}
-use Rattle·colour_table·specs.specs.Steps.{pairs_of, quotient_pairs}
-use Rattle·colour_table·proofs.proofs.pairs.Arms.{arm, last}
-use Rattle·colour_table·proofs.proofs.pairs.pair.Statement.{statement}
-use Rattle·colour_table·proofs.proofs.pairs.pair.Tie as tie
+use Rattle.std.proofs.Common.{rules}
+use Rattle.quotients.specs.Steps.{quotient_words}
+use Rattle.colour_table.specs.Steps.{pairs_of, quotient_pairs}
+use Rattle.colour_table.proofs.pairs.Arms.{arm, last}
+use Rattle.colour_table.proofs.pairs.pair.Goals as goal
 
 %s
-pub pair-spec : {M : Type 1} → statement M
-pair-spec =
-    tie.close
-    (tie.spec
-    %s)
 """
-
-
-def need(i):
-    return "returns" if i == 0 else f"returns-{i + 1}"
 
 
 def answer(i):
     if i < ARMS - 1:
-        fact = f"(c .match .keys{i + 1})"
+        name, fact = f"returns-in-{i}", f"c.in-{i}.is"
     else:
-        fact = f"(last {i} _ (c .match .rest) (c .before .pre))"
-    return f"{need(i)} : tie.Need-{need(i)}\nunfolding quotient_pairs pairs_of quotientWords\n{need(i)} c = arm {i} _ {fact}\n"
+        name, fact = "returns-in_default", f"(last {i} c.args.i (search rules) c.requires)"
+    return f"pub {name} : goal.{name}\nunfolding quotient_pairs pairs_of quotient_words\n{name} c = arm {i} c.args.i {fact}"
 
 
 def arm(i):
@@ -99,7 +87,7 @@ def arm(i):
 FILES = {
     HERE.parent / "quotients/specs/Steps.antt": STEPS % "\n    ∷ ".join(f"0x{word:08x}" for word in WORDS),
     HERE / "src/pairs.rt": MATCH % (ARMS, "\n".join(arm(i) for i in range(ARMS))),
-    HERE / "proofs/pairs/pair/Proof.antt": PROOF % ("\n".join(answer(i) for i in range(ARMS)), "\n    ".join(need(i) for i in range(ARMS))),
+    HERE / "proofs/pairs/pair/Answers.antt": ANSWERS % "\n\n".join(answer(i) for i in range(ARMS)),
 }
 
 if sys.argv[1:] == ["--check"]:

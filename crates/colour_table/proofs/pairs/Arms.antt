@@ -3,8 +3,6 @@ use Prim.Native.Nat.{ℕ, zero, suc, ◌<◌}
 use native.Mathlib.Nat.{not-suc-le-zero}
 use native.Mathlib.Omega.{arith}
 use mathlib.Core.Path.{◌≡◌, sym, ap}
-use mathlib.Core.List.{[], ◌∷◌}
-use types.Run.{OneOf}
 use lib.ListN.{get_or}
 use Rattle.colour_table.specs.Steps.{quotient_pairs}
 
@@ -14,7 +12,7 @@ arm k x h = sym (ap (λ (i : ℕ). get_or quotient_pairs i 0) h)
 -- x is none of the numbers below n, as the checker says it in a match's last arm
 abbrev pub Rest : ℕ → ℕ → Type 0
 Rest zero x = Unit {0}
-Rest (suc n) x = Rest n x × (OneOf (n ∷ []) x → ⊥)
+Rest (suc n) x = Rest n x × (x ≡ n → ⊥)
 
 below : (n x : ℕ) → x < suc n → (x ≡ n → ⊥) → x < n
 below n x h other = omega arith
