@@ -1,6 +1,6 @@
 -- A kind 2 body makes one call, its hand-over. And a capture makes far fewer calls than 2^64: a body makes no more than its words and one, so
 -- the theorem about lists of calls speaks of every capture. Assumes nothing.
-use Rattle.std.specs.Prelude.{ℕ, ◌+◌, ◌-◌, ◌≤◌, ◌≡◌, refl, List, [], ◌∷◌, Bool, true, false, cond, length, eqb}
+use Rattle.std.specs.Prelude.{ℕ, ◌+◌, ◌≤◌, ◌≡◌, refl, List, [], ◌∷◌, Bool, true, false, cond, length, eqb}
 use Rattle.std.proofs.Common.{arith, length-take}
 use Rattle.capture_check.specs.Contents.{Body, words_in}
 use Rattle.capture_calls.specs.Capture.{pair_calls, hand_over_call, restore_call, body_calls}

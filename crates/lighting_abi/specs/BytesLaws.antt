@@ -1,7 +1,7 @@
 -- A slice has 4 n bytes exactly if its words are n, whole words or none being counted. So each of block shading's answers is that of the bytes: a refusal by
 -- its length, or what the block gives the fragment. Assumes nothing.
 use Rattle.std.specs.Prelude.{ℕ, ◌*◌, ◌/◌, ◌%◌, ◌<◌, ◌≡◌, Bool, true, false, cond, List, [], eqb, length}
-use Rattle.std.proofs.Common.{arith, sym, subst, ◌∙◌, eq-eqb, eqb-true}
+use Rattle.std.proofs.Common.{arith, subst, ◌∙◌, eq-eqb, eqb-true}
 use Rattle.std.proofs.Math.Path.{refl, ap}
 use Rattle.sources.specs.Sources.{words_of}
 use Rattle.sources.specs.Steps.{given}

@@ -1,6 +1,6 @@
 -- For tests alone: a composed call goes on where the read's number is 0, with what the read gives, and else gives that number. Assumes nothing.
 use Prim.Native.Nat.{ℕ, zero, suc}
-use Rattle.std.proofs.Common.{arith, sym, ◌∙◌, eq-eqb}
+use Rattle.std.proofs.Common.{sym, ◌∙◌}
 use Rattle.std.specs.Prelude.{◌≡◌, List, length}
 use Rattle.std.proofs.Math.Path.{refl, ap}
 use Rattle.refusals.specs.Refusals.{outcome_number, fragment_refusal}
@@ -8,11 +8,11 @@ use Rattle.lighting.specs.declared.OptionalLighting.{OptionalLighting}
 use Rattle.decoding.specs.declared.LightingRead.{LightingRead}
 use Rattle.decoding.specs.Read.{FileRead, file_read, file_read_of}
 use Rattle.block.specs.declared.BlockRead.{BlockRead}
-use Rattle.block.specs.Block.{Packing, packing, BlockAnswer, block_read, answer_of}
+use Rattle.block.specs.Block.{packing, BlockAnswer, block_read, answer_of}
 use Rattle.unit.specs.declared.Cache.{Cache}
 use Rattle.unit.specs.declared.CachedRead.{CachedRead}
 use Rattle.unit.specs.Unit.{Cached, fresh_cache, cached_read, cached_of}
-use Rattle.shading.specs.Shade.{Shaded, shaded}
+use Rattle.shading.specs.Shade.{shaded}
 use Rattle.structs_abi.specs.Composed.{shades_reading, shades_if, shades_of, shade_file, shade_reading, packs_if, second, cached_reads}
 
 -- a read that gives the number k and the reading d

@@ -4,7 +4,7 @@ use Prim.Native.Nat.{ℕ, zero, suc, ◌-◌, ◌≤◌, ◌<◌}
 use native.Mathlib.Omega.{arith}
 use mathlib.Core.Path.{◌≡◌, refl, ap, ◌∙◌}
 use mathlib.Core.List.{List}
-use Rattle.unit.specs.Unit.{fresh_cache, Handed}
+use Rattle.unit.specs.Unit.{Handed}
 use Rattle.structs_abi.specs.HandOvers.{next, hand_overs, copied, copy_of}
 use borrow.Author.Rules.{rules}
 use Rattle.unit.specs.declared.Cache.{Cache}

@@ -1,8 +1,7 @@
-use Prim.Native.Nat.{◌-◌}
 use mathlib.Core.Path.{◌≡◌}
 use lib.ListN.{length}
 use Rattle.unit.specs.Unit.{fresh_cache, handed, handed_of}
-use Rattle.structs_abi.specs.HandOvers.{hand_overs, copied}
+use Rattle.structs_abi.specs.HandOvers.{hand_overs}
 use Rattle.structs_abi.proofs.structs_hand_overs.Given as goal
 
 abbrev pub invariant-loop-left : goal.invariant-loop-left

@@ -1,13 +1,10 @@
 -- `bodies::run_bodies` meets its contract. What the bodies from the place on leave and print, of the unit and copy so far, stays what was due;
 -- each stands where the check found it, and its lines take no more bytes than its words allow for.
-use Prim.Native.Nat.{◌-◌}
 use native.Mathlib.Omega.{arith}
 use mathlib.Core.Path.{refl}
-use mathlib.Core.Bool.{true}
 use lib.ListN.{length}
 use Rattle.lists.specs.Calls.{run}
 use Rattle.printing.specs.Steps.{puts}
-use Rattle.printing.specs.Steps as Writing
 use Rattle.sources.specs.PieceLaws.{part_is, part_length}
 use Rattle.capture_check.specs.ContentsLaws.{triples_all, triples_none, body_end, body_rest}
 use Rattle.capture_body.specs.Steps.{lent_state}

@@ -1,6 +1,5 @@
 -- `writes::write_pairs` meets its contract. What the writes from the place on leave, of the unit so far, stays what all of them leave.
 --
-use Prim.Native.Nat.{◌-◌}
 use native.Mathlib.Omega.{arith}
 use mathlib.Core.Path.{refl, sym, ◌∙◌}
 use Rattle.unit.specs.declared.Cache.{Cache}

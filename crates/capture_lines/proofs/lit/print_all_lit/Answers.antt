@@ -1,11 +1,10 @@
 -- `lit::print_all_lit` meets its contract. The lines of the fragments that are still to come, from the place so far, stay what was due,
 -- and each takes at most 32 bytes.
-use Prim.Native.Nat.{◌-◌, ◌*◌, ◌/◌}
+use Prim.Native.Nat.{◌*◌, ◌/◌}
 use native.Mathlib.Omega.{arith}
 use mathlib.Core.Path.{refl, ◌∙◌}
 use lib.ListN.{length, length-take, length-drop}
 use Rattle.printing.specs.Steps.{puts}
-use Rattle.printing.specs.Steps as Writing
 use Rattle.sources.specs.PieceLaws.{part_is}
 use Rattle.block.specs.Block.{words, block_lighting}
 use Rattle.capture_lines.specs.Steps.{lit_shades}

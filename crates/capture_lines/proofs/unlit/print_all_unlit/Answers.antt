@@ -1,11 +1,10 @@
 -- `unlit::print_all_unlit` meets its contract. The lines of the fragments that are still to come, from the place so far, stay what was due,
 -- and each takes at most 32 bytes.
-use Prim.Native.Nat.{◌-◌, ◌/◌}
+use Prim.Native.Nat.{◌/◌}
 use native.Mathlib.Omega.{arith}
 use mathlib.Core.Path.{refl, ◌∙◌}
 use lib.ListN.{length}
 use Rattle.printing.specs.Steps.{puts}
-use Rattle.printing.specs.Steps as Writing
 use Rattle.capture_lines.specs.Steps.{unlit_shades}
 use Rattle.capture_lines.specs.LinesLaws.{lines_all, lines_none, lines_turn}
 use borrow.Author.Rules.{rules}
