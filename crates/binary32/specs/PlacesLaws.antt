@@ -1,6 +1,6 @@
 -- The place of 1 is entry 255 with delta 1: it is computed.
 -- Assumes nothing.
-use Rattle.std.specs.Prelude.{◌≡◌, refl, ◌-◌}
+use Rattle.std.specs.Prelude.{◌≡◌, refl}
 use Rattle.std.specs.Float.Ieee.{mul, sub, lt, to_unsigned, of_bits}
 use Rattle.binary32.specs.Binary32.{float1, clamp_of, floor_of, unsigned_place_of}
 

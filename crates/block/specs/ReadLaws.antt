@@ -1,6 +1,6 @@
 -- Packing a well-formed block's reading gives that block, and `pack` accepts it. The words of the head and of each slot are got back
 -- from what they read as, and put together they are the block. Assumes nothing.
-use Rattle.std.specs.Prelude.{ℕ, zero, suc, ◌+◌, ◌-◌, ◌*◌, ◌<◌, ◌≤◌, ◌≡◌, refl, Bool, true, false, cond, ◌||◌, List, [], ◌∷◌, ◌++◌, eqb, ltb, leb, length, get_or, replicate}
+use Rattle.std.specs.Prelude.{ℕ, zero, suc, ◌+◌, ◌*◌, ◌<◌, ◌≤◌, ◌≡◌, refl, Bool, true, false, cond, ◌||◌, List, [], ◌∷◌, ◌++◌, eqb, ltb, leb, length, get_or, replicate}
 use Rattle.std.proofs.Common.{arith, sym, ap, ◌∙◌, eqb-true, lt-ltb, ltb-true, ltb-false, leb-true, le-leb}
 use Rattle.binary32.specs.Binary32.{float_of, word_of}
 use Rattle.lighting.specs.declared.Light.{Light}

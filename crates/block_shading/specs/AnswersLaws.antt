@@ -13,7 +13,7 @@ use Rattle.block.specs.Steps.{nan_free, form_of, block_form}
 use Rattle.lighting.specs.declared.Lighting.{Lighting}
 use Rattle.lighting.specs.declared.OptionalLighting.{OptionalLighting}
 use Rattle.lighting.specs.Lighting.{off, on}
-use Rattle.shading.specs.Shade.{Shaded, shaded}
+use Rattle.shading.specs.Shade.{shaded}
 use Rattle.block_shading.specs.BlockShading.{eight_of, eight_of_each, block_shading_refusal, shaded_by, block_shading_if, block_shading, fragments_refusal, shade_fragments_refusal, shaded_each_by, shade_fragments_if, shade_fragments}
 use Rattle.block_shading.specs.Steps.{is_off, shaded_by_form}
 use Rattle.block_shading.specs.FragmentsLaws.{each_of_one, each_at}

@@ -1,5 +1,6 @@
 // Two flags together.
 #![tactic(auto)]
+
 ghost use Rattle.std.specs.Prelude.{◌≡◌, ◌||◌, ◌&&◌};
 
 pub fn either(a: bool, b: bool) -> bool

@@ -1,5 +1,6 @@
 // Document 01's refusals, one case for each of its numbers, and what a call answers that brings nothing else: that it is done, or its refusal.
 #![tactic(auto)]
+
 ghost use Rattle.std.specs.Prelude.{◌≡◌};
 ghost use Rattle.refusals.specs.Refusals.{number_of, outcome_number};
 

@@ -12,7 +12,7 @@ use Rattle.surface.specs.declared.Frame.{Frame}
 use Rattle.light_steps.specs.declared.types.LightingLookups.{LightingLookups}
 use Rattle.light_steps.specs.declared.types.Settings.{Settings}
 use Rattle.light_steps.specs.declared.types.Sums.{Sums}
-use Rattle.light_steps.specs.Steps.{present, step_of}
+use Rattle.light_steps.specs.Steps.{step_of}
 
 -- ---- what a shadow applies to
 

@@ -1,6 +1,6 @@
 -- A list of writes goes on pair by pair: the next pair of what is left is written, and then the rest is due. Once a write is refused the rest changes nothing,
 -- and where less than a pair is left nothing is due. Assumes nothing.
-use Rattle.std.specs.Prelude.{◌≡◌, ℕ, zero, suc, ◌+◌, ◌*◌, ◌/◌, ◌≤◌, Bool, true, false, cond, List, [], ◌∷◌, length, drop, ◌==◌, ◌≢◌, nat_eq, slice_index}
+use Rattle.std.specs.Prelude.{◌≡◌, ℕ, ◌+◌, ◌*◌, ◌/◌, ◌≤◌, Bool, false, cond, List, [], ◌∷◌, length, drop, ◌==◌, ◌≢◌, nat_eq, slice_index}
 use Rattle.std.proofs.Common.{arith, ◌∙◌, length-drop}
 use Rattle.std.proofs.Math.Path.{refl, sym, ap}
 use borrow.Author.Tests.{ne_eqb}

@@ -9,7 +9,7 @@ use lib.Bits.{bit_or}
 use lib.Dec.{eqb, ltb, lit<}
 use borrow.Author.Tests.{ltb-true}
 use Rattle.lighting.specs.Forms.{every}
-use Rattle.block.specs.Block.{from, zeros, bit_at, is_number}
+use Rattle.block.specs.Block.{from, bit_at, is_number}
 use Rattle.block.specs.TestLaws.{◌also◌}
 use Rattle.block.specs.WordLaws.{small_number, zero_at}
 use Rattle.block_check.specs.declared.lanes.Lanes.{Lanes}

@@ -1,6 +1,6 @@
 -- `block_reading::lights_of` meets its contract. The loop's invariant: the lights before the slot are the definition's and the rest are blank, so that
 -- nothing is missing once it has reached the count.
-use Prim.Native.Nat.{◌≤◌, ◌<◌, ◌-◌}
+use Prim.Native.Nat.{◌≤◌, ◌<◌}
 use native.Mathlib.Omega.{arith}
 use mathlib.Core.Path.{◌≡◌, refl, ◌∙◌}
 use Rattle.sources.specs.Steps.{given}

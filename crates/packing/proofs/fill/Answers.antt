@@ -1,5 +1,4 @@
 -- `packing::fill` meets its contract. The loop's invariant: after the head the slots before this one are put.
-use Prim.Native.Nat.{◌-◌}
 use native.Mathlib.Omega.{arith}
 use mathlib.Core.Path.{◌≡◌, sym, ap, ◌∙◌}
 use lib.ListN.{length}

@@ -3,7 +3,7 @@ use Prim.Native.Nat.{ℕ, ◌+◌}
 use mathlib.Core.Path.{◌≡◌, refl}
 use mathlib.Core.List.{List, [], ◌∷◌}
 use Rattle.lighting.specs.declared.Light.{Light}
-use Rattle.block.specs.Block.{vector_words, distance_row, flags_word, light_words, distance_words}
+use Rattle.block.specs.Block.{vector_words, flags_word, light_words, distance_words}
 use Rattle.packing.specs.Steps.{put_words, colours_words, places_words}
 use Rattle.packing.specs.PutLaws.{after}
 

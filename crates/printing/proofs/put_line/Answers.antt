@@ -1,11 +1,9 @@
 -- `printing::put_line` meets its contract. The line of the numbers that are still to come, from the place so far, stays what was due, and each
 -- number with its gap takes at most four bytes.
-use Prim.Native.Nat.{◌-◌}
 use native.Mathlib.Omega.{arith}
 use mathlib.Core.Path.{refl}
 use lib.ListN.{length-set}
 use Rattle.printing.specs.Steps.{puts}
-use Rattle.printing.specs.Steps as Writing
 use Rattle.printing.specs.TextLaws.{line_turn, line_none}
 use borrow.Author.Rules.{rules}
 use Rattle.printing.proofs.put_line.Goals as goal

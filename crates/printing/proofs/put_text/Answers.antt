@@ -1,11 +1,10 @@
 -- `printing::put_text` meets its contract. What is still to be written of the text, from the place so far, stays what was due.
-use Prim.Native.Nat.{◌+◌, ◌-◌}
+use Prim.Native.Nat.{◌+◌}
 use native.Mathlib.Omega.{arith}
 use mathlib.Core.Path.{◌≡◌, refl, sym, ◌∙◌}
 use native.Mathlib.Nat.{add-zero}
 use lib.ListN.{length-set}
 use Rattle.printing.specs.Steps.{puts}
-use Rattle.printing.specs.Steps as Writing
 use Rattle.printing.specs.WritingLaws.{puts_next}
 use Rattle.sources.specs.PieceLaws.{drop_none}
 use borrow.Author.Rules.{rules}

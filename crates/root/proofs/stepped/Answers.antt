@@ -1,6 +1,6 @@
 -- `root::stepped` meets its contract, wherever it starts. In the first loop r is at most 2 ^ 25 and grows; in the second the root is at most r + 1/2, and r falls.
 --
-use Prim.Native.Nat.{ℕ, ◌-◌, ◌*◌, ◌≤◌}
+use Prim.Native.Nat.{ℕ, ◌*◌, ◌≤◌}
 use native.Mathlib.Omega.{arith}
 use Rattle.root.proofs.Squares.{sq_mono, small_root, square_pos, step_down}
 use Rattle.root.proofs.stepped.Goals as goal

@@ -1,6 +1,6 @@
 -- Word j of the channels goes into the first word after those that stand already, so that one more of them stands, and one less of what stood there. Once all
 -- eight stand in eight words, those words are the channels. Assumes nothing.
-use Rattle.std.proofs.Common.{◌≡◌, ℕ, suc, ◌+◌, ◌<◌, ◌≤◌, List, [], ◌∷◌, ◌++◌, length, get_or, take, drop, set, sym, refl, ap, ◌∙◌, append_assoc, append-nil, add-one, arith, length-append, drop_of_length-le, length-take-le, take_all, drop-cons, take-suc}
+use Rattle.std.proofs.Common.{◌≡◌, ℕ, ◌+◌, ◌<◌, List, ◌∷◌, ◌++◌, length, get_or, take, drop, set, sym, refl, ap, ◌∙◌, append_assoc, append-nil, add-one, arith, length-append, drop_of_length-le, length-take-le, drop-cons, take-suc}
 use lib.Seq.{append_snoc, set-append_seam}
 
 module _ (l k : List ℕ) (at j : ℕ) (h : at + j < length l) (g : j < length k) where

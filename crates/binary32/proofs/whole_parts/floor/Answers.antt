@@ -1,6 +1,6 @@
 -- `whole_parts::floor` meets its contract: each return is a case of `FloorDigitLaws`, at the pattern of x, which stands for x.
 use mathlib.Core.Path.{◌≡◌, sym, ap, subst, ◌∙◌}
-use mathlib.Core.Bool.{Bool, true, false}
+use mathlib.Core.Bool.{true, false}
 use Prim.Native.Nat.{◌%◌, ◌<◌}
 use native.Mathlib.Nat.{le_of_lt}
 use native.Mathlib.Omega.{arith}

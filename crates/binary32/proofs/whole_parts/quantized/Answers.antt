@@ -5,7 +5,7 @@ use mathlib.Core.Bool.{not}
 use Prim.Native.Nat.{ℕ, ◌%◌, ◌≤◌, ◌<◌}
 use lib.IntN.{pos}
 use lib.Dec.{T}
-use lib.Ieee.{Float, binary32, fits, mul, of_int, is_nan, to_bits}
+use lib.Ieee.{Float, binary32, mul, of_int, is_nan, to_bits}
 use Rattle.binary32.specs.Binary32.{float0, float1, float255}
 use Rattle.binary32.specs.Steps.{held_of, raisable, raised_floor}
 use Rattle.binary32.specs.RaisedLaws.{raised_number, raised_bits, raised_bounds, under_raisable, under_raised}

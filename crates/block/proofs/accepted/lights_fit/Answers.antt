@@ -1,5 +1,4 @@
 -- `accepted::lights_fit` meets its contract. The loop's invariant: it holds of the lights before the slot.
-use Prim.Native.Nat.{◌-◌}
 use native.Mathlib.Nat.{not-suc-le-zero}
 use native.Mathlib.Omega.{arith}
 use borrow.Author.Count.{below_more}

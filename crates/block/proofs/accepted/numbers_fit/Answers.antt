@@ -1,5 +1,4 @@
 -- `accepted::numbers_fit` meets its contract. The loop's invariant: what is kept is the test of the lights before the slot.
-use Prim.Native.Nat.{◌-◌}
 use native.Mathlib.Numerals.{add-one}
 use native.Mathlib.Omega.{arith}
 use mathlib.Core.Path.{◌≡◌, refl}

@@ -1,6 +1,5 @@
 -- `floats::odd_nans` meets its contract. The loop's invariant: a bit is set exactly if one of the first k words is another NaN than
 -- 7FC00000.
-use Prim.Native.Nat.{◌-◌}
 use native.Mathlib.Numerals.{add-one}
 use native.Mathlib.Omega.{arith}
 use mathlib.Core.Path.{◌≡◌, refl, ap, ◌∙◌}

@@ -1,5 +1,5 @@
 -- `floats::with_nans_of_light` meets its contract. The loop's invariant: the lanes are clear exactly if they were before and each word of the rows that are passed is a number.
-use Prim.Native.Nat.{◌+◌, ◌*◌, ◌-◌}
+use Prim.Native.Nat.{◌+◌, ◌*◌}
 use native.Mathlib.Omega.{arith}
 use mathlib.Core.Path.{◌≡◌, sym}
 use mathlib.Core.Bool.{and-true}

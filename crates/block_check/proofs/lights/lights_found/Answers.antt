@@ -1,6 +1,6 @@
 -- `lights::lights_found` meets its contract. The loop's invariant: what was found is that of the slots before this one, formed exactly if each of them is, and
 -- then without a NaN's bit exactly if their words are numbers.
-use Prim.Native.Nat.{ℕ, ◌+◌, ◌-◌}
+use Prim.Native.Nat.{ℕ, ◌+◌}
 use native.Mathlib.Numerals.{add-one}
 use native.Mathlib.Omega.{arith}
 use mathlib.Core.Path.{◌≡◌, refl, sym, ap, ◌∙◌}

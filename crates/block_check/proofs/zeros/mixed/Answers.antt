@@ -1,5 +1,4 @@
 -- `zeros::mixed` meets its contract. The loop's invariant: the OR of the first k words is zero exactly if they are.
-use Prim.Native.Nat.{◌-◌}
 use native.Mathlib.Numerals.{add-one}
 use native.Mathlib.Omega.{arith}
 use mathlib.Core.Path.{◌≡◌, refl, ap}

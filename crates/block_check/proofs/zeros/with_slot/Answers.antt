@@ -1,5 +1,5 @@
 -- `zeros::with_slot` meets its contract. The loop's invariant: the lanes are clear exactly if they were before and each word of the rows that are passed is zero.
-use Prim.Native.Nat.{◌+◌, ◌*◌, ◌-◌}
+use Prim.Native.Nat.{◌+◌, ◌*◌}
 use native.Mathlib.Omega.{arith}
 use mathlib.Core.Path.{◌≡◌, sym}
 use mathlib.Core.Bool.{and-true}

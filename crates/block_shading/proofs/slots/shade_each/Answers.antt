@@ -1,6 +1,6 @@
 -- `slots::shade_each` meets its contract. Before fragment i the first 8 i words of the answers are those of the fragments before it, and its own 8 words come
 -- after them.
-use Prim.Native.Nat.{◌-◌, ◌*◌, ◌/◌}
+use Prim.Native.Nat.{◌*◌, ◌/◌}
 use native.Mathlib.Omega.{arith}
 use mathlib.Core.Path.{◌≡◌, refl, sym, ◌∙◌}
 use lib.ListN.{length}

@@ -1,6 +1,5 @@
 -- `slots::sum_slots` meets its contract. Before a slot the sums are the definition's after the slots before it, and `step` adds the slot's light, which is read from
 -- its 36 words.
-use Prim.Native.Nat.{◌-◌}
 use native.Mathlib.Numerals.{add-one}
 use native.Mathlib.Omega.{arith}
 use mathlib.Core.Path.{◌≡◌, refl}

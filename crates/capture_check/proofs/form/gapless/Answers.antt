@@ -1,5 +1,4 @@
 -- `form::gapless` meets its contract. What the bodies from the place on say stays what all of them say.
-use Prim.Native.Nat.{◌-◌}
 use native.Mathlib.Omega.{arith}
 use mathlib.Core.Path.{sym, ◌∙◌}
 use Rattle.capture_check.specs.Contents.{gapless}

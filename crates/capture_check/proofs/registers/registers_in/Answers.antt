@@ -1,5 +1,4 @@
 -- `registers::registers_in` meets its contract. What the pairs from the place on say stays what all of them say.
-use Prim.Native.Nat.{◌-◌}
 use native.Mathlib.Omega.{arith}
 use mathlib.Core.Path.{refl, sym, ◌∙◌}
 use Rattle.capture_check.proofs.registers.NextRegister.{registers_go, registers_stop, registers_none}

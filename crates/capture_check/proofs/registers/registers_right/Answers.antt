@@ -1,9 +1,7 @@
 -- `registers::registers_right` meets its contract. What the bodies from the place on say stays what all of them say, and each stands
 -- where the check of the form found it.
-use Prim.Native.Nat.{◌-◌}
 use native.Mathlib.Omega.{arith}
 use mathlib.Core.Path.{sym, ◌∙◌}
-use mathlib.Core.Bool.{true}
 use Rattle.sources.specs.PieceLaws.{part_is}
 use Rattle.capture_check.specs.Contents.{registers_right}
 use Rattle.capture_check.specs.ContentsLaws.{triples_all, triples_none, body_end, body_rest}

@@ -1,6 +1,5 @@
 -- `words::to_words` meets its contract. The words that are still to be written, from the place so far, stay what was due; there are as
 -- many as the bytes have, so they fit.
-use Prim.Native.Nat.{◌-◌}
 use native.Mathlib.Omega.{arith}
 use mathlib.Core.Path.{refl, sym, ap, ◌∙◌}
 use lib.ListN.{length, length-set}

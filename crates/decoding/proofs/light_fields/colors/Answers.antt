@@ -1,6 +1,6 @@
 -- `light_fields::colors` meets its contract. The loop's invariant: the colours of the words before k are put in, so that all four are there once it ends.
 --
-use Prim.Native.Nat.{ℕ, suc, ◌+◌, ◌-◌, ◌*◌}
+use Prim.Native.Nat.{ℕ, suc, ◌+◌, ◌*◌}
 use native.Mathlib.Omega.{arith}
 use mathlib.Core.Path.{◌≡◌, refl, ap}
 use mathlib.Core.List.{List, [], ◌∷◌}

@@ -1,5 +1,4 @@
 -- `needs::any_spotlight` meets its contract. The loop's invariant: the flag says whether one of the lights passed has a spotlight. The measure is what is left of the count.
-use Prim.Native.Nat.{◌-◌}
 use mathlib.Core.Path.{◌≡◌}
 use native.Mathlib.Omega.{arith}
 use borrow.Author.Rules.{rules}

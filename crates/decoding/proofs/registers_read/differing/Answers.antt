@@ -1,6 +1,6 @@
 -- `registers_read::differing` meets its contract. The invariant: `found` is the number of differences among the words passed, so at most their number.
 --
-use Prim.Native.Nat.{ℕ, ◌+◌, ◌-◌}
+use Prim.Native.Nat.{ℕ, ◌+◌}
 use native.Mathlib.Omega.{arith}
 use mathlib.Core.Path.{◌≡◌, refl, ap, ◌∙◌}
 use Rattle.decoding.specs.Steps.{differences}

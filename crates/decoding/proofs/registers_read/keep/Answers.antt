@@ -1,6 +1,6 @@
 -- `registers_read::keep` meets its contract. The loop has stored the words of the lights that it passed, and left the first; the stores after it
 -- are those of the other parts.
-use Prim.Native.Nat.{◌+◌, ◌-◌}
+use Prim.Native.Nat.{◌+◌}
 use native.Mathlib.Omega.{arith}
 use mathlib.Core.Path.{sym, ◌∙◌}
 use lib.ListN.{get_or, length-set}

@@ -1,6 +1,6 @@
 -- `answer_words::put` meets its contract. Before word j the first j channels stand from the place on, before what stood there and after it (`Eight`). Assumes
 -- nothing.
-use Rattle.std.proofs.Common.{◌≡◌, ◌+◌, ◌-◌, get_or, sym, refl, ◌∙◌, arith, length-set, take-append-drop, take_all}
+use Rattle.std.proofs.Common.{◌≡◌, ◌+◌, get_or, sym, refl, ◌∙◌, arith, length-set, take-append-drop, take_all}
 use Rattle.shading.proofs.answer_words.Eight.{stored}
 use Rattle.shading.proofs.answer_words.put.Goals as goal
 

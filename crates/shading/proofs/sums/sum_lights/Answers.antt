@@ -1,6 +1,6 @@
 -- `sums::sum_lights` meets its contract. Before a slot the sums are the definition's after the slots before it, and `step` adds the slot's light.
 --
-use Rattle.std.proofs.Common.{◌≡◌, ◌-◌, refl, add-one, arith, rules}
+use Rattle.std.proofs.Common.{◌≡◌, refl, add-one, arith, rules}
 use Rattle.shading.specs.Steps.{sums_by}
 use Rattle.shading.proofs.sums.sum_lights.Goals as goal
 

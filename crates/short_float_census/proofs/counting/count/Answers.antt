@@ -1,6 +1,6 @@
 -- `counting::count` meets its contract. The loop's invariant: the totals are the fold's over the patterns below `bits`, so that they are the census once all
 -- are visited; a decoded pattern has the class of its word.
-use Prim.Native.Nat.{ℕ, suc, ◌+◌, ◌-◌, ◌≤◌, ◌<◌}
+use Prim.Native.Nat.{ℕ, suc, ◌+◌, ◌≤◌, ◌<◌}
 use native.Mathlib.Omega.{arith}
 use mathlib.Core.Path.{◌≡◌, refl, sym, ap, ◌∙◌}
 use lib.Pow.{pow_mono}

@@ -1,6 +1,6 @@
 -- `copies::copy` meets its contract. The loop's invariant: both slices begin with the same i words. The measure is what is left to copy.
 --
-use Rattle.std.proofs.Common.{◌-◌, arith, length-set, rules}
+use Rattle.std.proofs.Common.{arith, length-set, rules}
 use Rattle.tables.proofs.copies.Copies.{copy_more, copy_all}
 use Rattle.tables.proofs.copies.copy.Goals as goal
 

@@ -1,6 +1,6 @@
 -- `lists::write_each` meets its contract. Before pair i the pairs before it are made, and what the rest of the list is due stays what all of it is due
 -- (ListLaws: made); a refused write ends the list (ListLaws: refused).
-use Rattle.std.proofs.Common.{◌≡◌, ◌-◌, ◌/◌, length, sym, refl, ◌∙◌, arith}
+use Rattle.std.proofs.Common.{◌≡◌, ◌/◌, length, sym, refl, ◌∙◌, arith}
 use Rattle.tables.specs.Tables.{writes}
 use Rattle.tables.specs.RefusalLaws.{refusal_not_zero}
 use Rattle.tables.specs.ListLaws.{none_left, made, refused}

@@ -2,7 +2,6 @@
 -- always taken.
 use mathlib.Core.Path.{sym, ap, ◌∙◌}
 use mathlib.Core.List.{List}
-use mathlib.Core.Bool.{true}
 use Prim.Native.Nat.{ℕ}
 use Rattle.unit.specs.CacheWords.{cache_block, formed}
 use Rattle.unit.specs.LentLaws.{block_part, anew_formed, kept_refreshed, anew_refreshed}

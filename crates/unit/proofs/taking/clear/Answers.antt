@@ -1,5 +1,4 @@
 -- `taking::clear` meets its contract. The loop's invariant: the words passed are zero.
-use Prim.Native.Nat.{◌-◌}
 use native.Mathlib.Omega.{arith}
 use lib.ListN.{length-set}
 use Rattle.unit.proofs.taking.Zeros.{zeros_more, zeros_all}
