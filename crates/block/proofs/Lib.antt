@@ -1,1 +1,5 @@
 mod Examples
+pub mod PackedLaws
+pub mod ReadLaws
+pub mod AcceptedLaws
+pub mod OffLaws

@@ -5,9 +5,5 @@ pub mod TestLaws
 pub mod FormedLaws
 pub mod FlagLaws
 pub mod ListLaws
-pub mod PackedLaws
 pub mod WordLaws
 pub mod SmallLaws
-pub mod ReadLaws
-pub mod AcceptedLaws
-pub mod OffLaws

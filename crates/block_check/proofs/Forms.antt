@@ -14,7 +14,7 @@ use Rattle.block.specs.Steps.{nan_free, form_of}
 use Rattle.block.specs.TestLaws.{every_one, every_of}
 use Rattle.block.specs.FormedLaws.{Shaped, formed_parts, formed_made}
 use Rattle.block.specs.SmallLaws.{passes}
-use Rattle.block.specs.PackedLaws.{not_all_zero}
+use Rattle.block.proofs.PackedLaws.{not_all_zero}
 use Rattle.block.specs.WordLaws.{number_formed, small_number, small_formed}
 use Rattle.block_check.specs.Steps.{head_formed, lights_formed, floats_form}
 use Rattle.block_check.proofs.Shape.{lights_of_shape, head_of_shape, unused_of_shape, shape_made}

@@ -7,10 +7,10 @@ use borrow.Author.Tests.{lt-ltb, ltb-true}
 use Rattle.lighting.specs.Lighting.{no_light, bump_unit, shadow_unit, slot_of, light_at}
 use Rattle.block.specs.Block.{from, slot_at, well_formed, block_light, block_lights, block_lighting}
 use Rattle.block.specs.FormedLaws.{formed_parts}
-use Rattle.block.specs.ReadLaws.{lit_light as lit-of-block}
+use Rattle.block.proofs.ReadLaws.{lit_light as lit-of-block}
 use Rattle.block.specs.WordLaws.{bump_unit_small, shadow_unit_small}
 use Rattle.shading.specs.Steps.{lighting_lookups, lighting_settings, lighting_frame, lighting_shadow, finished_of, sums_by, shade_by, shade_of}
-use Rattle.shading.specs.ShadeLaws.{shade_law}
+use Rattle.shading.proofs.ShadeLaws.{shade_law}
 use Rattle.shading.specs.Shade.{shade}
 use Rattle.block_shading.specs.Steps.{head_of}
 

@@ -1,4 +1,3 @@
-pub mod AnswersLaws
 pub mod BlockShading
 pub mod FragmentsLaws
 pub mod HeadLaws

@@ -20,7 +20,7 @@ use Rattle.printing.specs.Printing.{refused_line}
 use Rattle.capture_check.specs.Contents.{contents, sized, registers_right, shaped, capture_words_refusal, capture_refusal}
 use Rattle.capture_calls.specs.Capture.{largest_output, short_output, Captured, captured, number_by, size_of, captured_by, printed_if, printed, prints_into, captures}
 use Rattle.capture_calls.specs.declared.Answer.{Answer}
-use Rattle.capture_calls.specs.PrintedLaws.{printed_refused, printed_fits}
+use Rattle.capture_calls.proofs.PrintedLaws.{printed_refused, printed_fits}
 
 -- 0, 3 or 8
 refusal_small : (w : List ℕ) → capture_words_refusal w < 1000

@@ -8,7 +8,7 @@ use Rattle.block_reading.specs.Steps.{is_lit}
 use Rattle.shading.specs.Shade.{shaded}
 use Rattle.block_shading.specs.Steps.{is_off, shaded_by_form}
 use Rattle.block_shading.specs.FragmentsLaws.{each_of_one}
-use Rattle.block_shading.specs.AnswersLaws.{by_form_of_one}
+use Rattle.block_shading.proofs.AnswersLaws.{by_form_of_one}
 use Rattle.capture_lines.specs.Lines.{no_answer}
 use Rattle.capture_lines.specs.Steps.{block_shades, lit_shades, unlit_shades}
 

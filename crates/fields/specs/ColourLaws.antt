@@ -9,7 +9,7 @@ use Rattle.std.specs.Float.Ieee.Fits.{div-fits}
 use Rattle.binary32.specs.Binary32.{float_of}
 use Rattle.quotients.specs.Steps.{quotient_words}
 use Rattle.quotients.specs.Claims.{quotient_word, Rule}
-use Rattle.quotients.specs.RuleLaws.{rule}
+use Rattle.quotients.proofs.RuleLaws.{rule}
 use Rattle.fields.specs.Fields.{colour_channel, colour_field}
 use Rattle.fields.specs.QuotientLaws.{quotient_number}
 

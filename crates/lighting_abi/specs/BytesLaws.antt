@@ -10,7 +10,7 @@ use Rattle.lighting_abi.specs.Boundary.{bytes_of, whole_words, answer_bytes, sha
 use Rattle.shading.specs.Shade.{Shaded, shaded}
 use Rattle.block_shading.specs.BlockShading.{eight_of_each}
 use Rattle.block_shading.specs.Steps.{is_off, shaded_by_form}
-use Rattle.block_shading.specs.AnswersLaws.{wrong_block, wrong_tables, wrong_fragment, wrong_answer, by_form_of_one}
+use Rattle.block_shading.proofs.AnswersLaws.{wrong_block, wrong_tables, wrong_fragment, wrong_answer, by_form_of_one}
 use Rattle.block.specs.Block.{words, block_lighting}
 use Rattle.block.specs.Steps.{block_form}
 use Rattle.block_reading.specs.Steps.{is_lit}

@@ -2,3 +2,11 @@ pub mod Refuted
 pub mod Colours
 pub mod Painted
 pub mod StaleTables
+pub mod LentLaws
+pub mod WriteCallLaws
+pub mod RestoreCallLaws
+pub mod ReadCallLaws
+pub mod HandOverCallLaws
+pub mod Demand3Laws
+pub mod InWordsLaws
+pub mod LentCacheLaws

@@ -24,7 +24,7 @@ use Rattle.lists.specs.Calls.Lent.{own}
 use Rattle.lists.specs.Plain.{plain_run, plain_step, zero_machine, accepts, does, plain_write}
 use Rattle.lists.specs.Claim.{shade_from, Demand3, EndsHandedOver, HandsOver}
 use Rattle.lists.specs.Invariant.{Sound}
-use Rattle.lists.specs.ReadCallLaws.{read_sound}
+use Rattle.lists.proofs.ReadCallLaws.{read_sound}
 use Rattle.lists.specs.Wrong.{refuses_writes, paints_one, copying_nothing, copies_nothing, copying_once, copies_once}
 
 -- a fresh unit's lighting is off, and on once bit 0 of 8F is set

@@ -23,7 +23,7 @@ use Rattle.lists.specs.Calls.Call.{Write, Restore, HandOver}
 use Rattle.lists.specs.Calls.Lent.{own}
 use Rattle.lists.specs.Plain.{plain, plain_run, plain_step, zero_machine, accepts, does, plain_write}
 use Rattle.lists.specs.Claim.{shade_from, ShadesAs, Demand3, EndsHandedOver, HandsOver}
-use Rattle.lists.specs.ReadCallLaws.{read_sound}
+use Rattle.lists.proofs.ReadCallLaws.{read_sound}
 use Rattle.lists.specs.Wrong.{copying_no_tables, copies_no_tables, copying_tables_once, copies_tables_once}
 use Rattle.lists.proofs.Refuted.{fresh_sound, hands_over_lem}
 use Rattle.lists.proofs.Colours.{empty, ones, fragment, answer, lantern, colours}

@@ -8,14 +8,6 @@ pub mod LentCache
 pub mod Invariant
 pub mod Meant
 pub mod Wrong
-pub mod LentLaws
 pub mod InvariantLaws
-pub mod WriteCallLaws
-pub mod RestoreCallLaws
-pub mod ReadCallLaws
-pub mod HandOverCallLaws
 pub mod ShadesLaws
-pub mod Demand3Laws
 pub mod MeantLaws
-pub mod InWordsLaws
-pub mod LentCacheLaws

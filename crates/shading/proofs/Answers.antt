@@ -5,7 +5,7 @@ use Rattle.refusals.specs.Refusals.{tables_refusal, answer_refusal}
 use Rattle.lighting.specs.declared.Lighting.{Lighting}
 use Rattle.block.specs.Block.{accepted, lighting_refusal}
 use Rattle.shading.specs.Steps.{shade_of}
-use Rattle.shading.specs.ShadeLaws.{shade_law}
+use Rattle.shading.proofs.ShadeLaws.{shade_law}
 use Rattle.shading.specs.Shade.{shaded, shade_refusal, shades}
 
 module _ (l : Lighting) (tables : List ℕ) (quaternion view : List Float) (texels : List (List Float)) (answer : List ℕ) where

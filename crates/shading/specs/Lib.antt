@@ -1,4 +1,2 @@
 pub mod Shade
 pub mod Steps
-pub mod ShadeLaws
-pub mod AlphaLaws

@@ -1,1 +1,4 @@
 pub mod Examples
+pub mod UploadLaws
+pub mod WriteLaws
+pub mod ListLaws

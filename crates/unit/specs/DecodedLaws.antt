@@ -28,10 +28,10 @@ use Rattle.block.specs.Steps.{lookup_acceptable, optional_lookup_acceptable, acc
 use Rattle.block.specs.Claims.{BlankBeyond}
 use Rattle.block.specs.TestLaws.{◌also◌, or_second, every_of}
 use Rattle.block.specs.ListLaws.{length-packed}
-use Rattle.block.specs.PackedLaws.{packed_reads}
+use Rattle.block.proofs.PackedLaws.{packed_reads}
 use Rattle.unit.specs.Unit.{packable}
-use Rattle.block.specs.AcceptedLaws.{accepted_is}
-use Rattle.block.specs.OffLaws.{zero_block}
+use Rattle.block.proofs.AcceptedLaws.{accepted_is}
+use Rattle.block.proofs.OffLaws.{zero_block}
 
 scale_held : (x : Float) → IsScale x → T (fits binary32 x)
 scale_held x h = rw h.is (scale_fits h.code)

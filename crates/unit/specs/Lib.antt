@@ -4,5 +4,3 @@ pub mod Meaning
 pub mod Steps
 pub mod HandOverLaws
 pub mod DecodedLaws
-pub mod MeaningLaws
-pub mod LentLaws

@@ -21,7 +21,7 @@ use Rattle.lighting.specs.Lighting.{bump_unit, shadow_unit, numbers_fit, in_rang
 use Rattle.lighting.specs.Claims.{DistanceFits, LookupFits, LightingFits}
 use Rattle.block.specs.Block.{accepted}
 use Rattle.block.specs.Steps.{lookup_acceptable, optional_lookup_acceptable, acceptable}
-use Rattle.block.specs.AcceptedLaws.{accepted_is}
+use Rattle.block.proofs.AcceptedLaws.{accepted_is}
 
 pub vector_made : (v : List Float) → length v ≡ 3 → T (fits binary32 (at v 0)) → T (fits binary32 (at v 1)) → T (fits binary32 (at v 2)) → Vector v
 vector_made v n h0 h1 h2 = record { long = n; fit = each }

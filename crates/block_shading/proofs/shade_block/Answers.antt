@@ -2,7 +2,7 @@
 -- leads to the definition's answer.
 use native.Mathlib.Omega.{arith}
 use mathlib.Core.Path.{◌∙◌}
-use Rattle.block_shading.specs.AnswersLaws.{wrong_block, wrong_tables, wrong_fragment, wrong_answer, by_form_of_one}
+use Rattle.block_shading.proofs.AnswersLaws.{wrong_block, wrong_tables, wrong_fragment, wrong_answer, by_form_of_one}
 use Rattle.block_shading.proofs.shade_block.Goals as goal
 
 pub returns-then-block-ne328 : goal.returns-then-block-ne328

@@ -1,7 +1,7 @@
 -- `block_shading::shade_fragments` meets its contract: each wrong length is refused as the definition refuses it, and past the lengths the form of the block's
 -- words leads to the definition's answer.
 use mathlib.Core.Path.{◌∙◌}
-use Rattle.block_shading.specs.AnswersLaws.{wrong_block_of_many, wrong_tables_of_many, not_whole, not_8_for_each, whole_fragments, by_form}
+use Rattle.block_shading.proofs.AnswersLaws.{wrong_block_of_many, wrong_tables_of_many, not_whole, not_8_for_each, whole_fragments, by_form}
 use Rattle.block_shading.proofs.shade_fragments.Goals as goal
 
 pub returns-then-block-ne328 : goal.returns-then-block-ne328

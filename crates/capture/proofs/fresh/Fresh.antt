@@ -11,7 +11,7 @@ use Rattle.lists.specs.Plain.{zero_machine}
 use Rattle.capture_check.specs.Contents.{body_count, triples, contents, capture_words_refusal}
 use Rattle.capture_calls.specs.Steps.{copy_prints}
 use Rattle.capture_calls.specs.Capture.{machine_prints}
-use Rattle.capture_calls.specs.MachineLaws.{copy_prints_as_machine}
+use Rattle.capture_calls.proofs.MachineLaws.{copy_prints_as_machine}
 use Rattle.capture_body.specs.Steps.{lent_state}
 use Rattle.capture_calls.specs.RefusalLaws.{not_refused_shaped}
 

@@ -7,7 +7,7 @@ use mathlib.Core.List.{List, [], ◌++◌}
 use lib.ListN.{drop}
 use Rattle.std.proofs.Common.{length-take-le}
 use Rattle.capture_calls.specs.Capture.{Captured}
-use Rattle.capture_calls.specs.PrintedLaws.{printed_fits}
+use Rattle.capture_calls.proofs.PrintedLaws.{printed_fits}
 use Rattle.capture.proofs.Whole.{size_is, without_room, with_room}
 use Rattle.capture.proofs.run_capture.Goals as goal
 

@@ -2,7 +2,7 @@
 use Prim.Native.Nat.{ℕ}
 use mathlib.Core.Path.{refl, sym, ap}
 use Rattle.capture_calls.specs.Capture.{captured}
-use Rattle.capture_calls.specs.AnswerLaws.{refusal_first}
+use Rattle.capture_calls.proofs.AnswerLaws.{refusal_first}
 use Rattle.capture_calls.proofs.unprinted.Goals as goal
 
 pub returns-in-Printed : goal.returns-in-Printed

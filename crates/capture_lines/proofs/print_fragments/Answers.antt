@@ -12,7 +12,7 @@ use Rattle.block.specs.Steps.{block_form}
 use Rattle.block_reading.specs.Steps.{is_lit, is_plain}
 use Rattle.block_reading.specs.FormLaws.{is_lit_lem, is_plain_lem}
 use Rattle.block_shading.specs.Steps.{is_off}
-use Rattle.block_shading.specs.AnswersLaws.{wrong_block, wrong_tables}
+use Rattle.block_shading.proofs.AnswersLaws.{wrong_block, wrong_tables}
 use Rattle.capture_lines.specs.Lines.{no_answer}
 use Rattle.capture_lines.specs.Steps.{block_shades, lit_shades, unlit_shades}
 use Rattle.capture_lines.specs.LinesLaws.{lines_alike}

@@ -1,6 +1,6 @@
 -- The output has the 22,784 bytes that every capture's text fits in, so it is never too short.
 use Rattle.std.proofs.Common.{rules}
-use Rattle.capture_calls.specs.AnswerLaws.{output_suffices}
+use Rattle.capture_calls.proofs.AnswerLaws.{output_suffices}
 use Rattle.lightshow.proofs.show.Goals as goal
 
 pub size_of-size-requires : goal.size_of-size-requires

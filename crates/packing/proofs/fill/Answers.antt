@@ -4,7 +4,7 @@ use mathlib.Core.Path.{◌≡◌, sym, ap, ◌∙◌}
 use lib.ListN.{length}
 use borrow.Author.Tests.{ltb-true}
 use Rattle.lighting.specs.Lighting.{light_at}
-use Rattle.block.specs.PackedLaws.{range_number}
+use Rattle.block.proofs.PackedLaws.{range_number}
 use Rattle.packing.specs.PutLaws.{length-put}
 use Rattle.packing.proofs.Slots.{none_put, slot_put, all_put}
 use Rattle.packing.proofs.fill.Goals as goal

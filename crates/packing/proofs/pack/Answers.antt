@@ -1,6 +1,6 @@
 -- `packing::pack` meets its contract: each answer is the definition's, by the tests that led to it.
 use mathlib.Core.Path.{sym, ◌∙◌}
-use Rattle.block.specs.AcceptedLaws.{accepted_range}
+use Rattle.block.proofs.AcceptedLaws.{accepted_range}
 use Rattle.packing.proofs.PackAnswers.{wrong_block, refused, done}
 use Rattle.packing.proofs.pack.Goals as goal
 

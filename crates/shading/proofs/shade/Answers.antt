@@ -2,7 +2,7 @@
 use Rattle.std.proofs.Common.{ℕ, List, [], length, sym, refl, ap, ◌∙◌}
 use Rattle.shading.specs.Steps.{shade_of}
 use Rattle.sources.specs.SourcesLaws.{given-words}
-use Rattle.block.specs.AcceptedLaws.{accepted_range}
+use Rattle.block.proofs.AcceptedLaws.{accepted_range}
 use Rattle.shading.proofs.answer_words.Eight.{all}
 use Rattle.shading.proofs.Answers.{wrong_tables, wrong_answer, refused, done}
 use Rattle.shading.proofs.shade.Goals as goal

@@ -3,7 +3,7 @@ use Rattle.shading.specs.Steps.{shade_by, Numbered}
 use Rattle.std.proofs.Common.{◌≡◌, ◌≤◌, true, arith}
 use Rattle.lighting.specs.declared.Lighting.{Lighting}
 use Rattle.lighting.specs.Lighting.{slot_of, light_at, in_range}
-use Rattle.block.specs.PackedLaws.{range_count, range_number}
+use Rattle.block.proofs.PackedLaws.{range_count, range_number}
 use Rattle.shading.proofs.shade_by.Goals as goal
 
 -- an accepted count, and numbers of at most 7

@@ -3,7 +3,7 @@
 use native.Mathlib.Omega.{arith}
 use mathlib.Core.Path.{ap, ◌∙◌}
 use lib.ListN.{length}
-use Rattle.block.specs.PackedLaws.{range_bump, range_shadow, range_count}
+use Rattle.block.proofs.PackedLaws.{range_bump, range_shadow, range_count}
 use Rattle.packing.specs.PutLaws.{length-put}
 use Rattle.packing.proofs.head_words.Head.{head_put}
 use Rattle.packing.proofs.head_words.put_head.Goals as goal

@@ -1,7 +1,7 @@
 -- `parts::frame_of` meets its contract: each operation and call is the definition's, in its order.
 use Rattle.surface.specs.Steps.{frame_of}
 use Rattle.shading.specs.Steps.{lighting_frame}
-use Rattle.block.specs.PackedLaws.{range_bump}
+use Rattle.block.proofs.PackedLaws.{range_bump}
 use Rattle.shading.proofs.parts.frame_of.Goals as goal
 
 pub texel_of-texel-requires : goal.texel_of-texel-requires

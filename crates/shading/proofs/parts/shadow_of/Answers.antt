@@ -1,6 +1,6 @@
 -- `parts::shadow_of` meets its contract: each operation and call is the definition's, in its order.
 use Rattle.shading.specs.Steps.{lighting_shadow}
-use Rattle.block.specs.PackedLaws.{range_shadow}
+use Rattle.block.proofs.PackedLaws.{range_shadow}
 use Rattle.shading.proofs.parts.shadow_of.Goals as goal
 
 pub texel_of-texel-requires : goal.texel_of-texel-requires

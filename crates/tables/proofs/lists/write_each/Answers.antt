@@ -3,7 +3,7 @@
 use Rattle.std.proofs.Common.{◌≡◌, ◌/◌, length, sym, refl, ◌∙◌, arith}
 use Rattle.tables.specs.Tables.{writes}
 use Rattle.tables.specs.RefusalLaws.{refusal_not_zero}
-use Rattle.tables.specs.ListLaws.{none_left, made, refused}
+use Rattle.tables.proofs.ListLaws.{none_left, made, refused}
 use Rattle.tables.proofs.lists.write_each.Goals as goal
 
 pub returns-in-Refused : goal.returns-in-Refused

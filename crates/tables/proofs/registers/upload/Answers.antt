@@ -3,7 +3,7 @@
 use Rattle.std.proofs.Common.{ℕ, ◌+◌, ◌<◌, List, get_or, ◌≡◌, ◌≤◌, true, false, sym, arith, length-set, le-ltb, lt-ltb, eq-eqb, ne_eqb}
 use Rattle.fields.specs.Fields.{upload_value_bits, upload_step_bits}
 use Rattle.tables.specs.Tables.{index, table_of, changes, stored, same_entry, put_entry, place, last}
-use Rattle.tables.specs.WriteLaws.{upload_same, upload_refused, upload_changed}
+use Rattle.tables.proofs.WriteLaws.{upload_same, upload_refused, upload_changed}
 use Rattle.tables.proofs.registers.upload.Goals as goal
 use Rattle.tables.proofs.registers.upload.Goals.{else-tables-at-via-then-tables-at+else-tables-at-2, else-tables-at-via-else-tables-at}
 

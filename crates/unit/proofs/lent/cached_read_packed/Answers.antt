@@ -7,7 +7,7 @@ use borrow.Author.Tests.{lt-leb, le-leb, eq-eqb, ne_eqb}
 use Rattle.refusals.specs.Refusals.{file_refusal, block_refusal}
 use Rattle.unit.specs.Unit.{cached_block}
 use Rattle.unit.specs.CacheWords.{cache_block, formed, cache_refusal, cached_read_packed_words_if}
-use Rattle.unit.specs.LentLaws.{cached_refused, cached_done}
+use Rattle.unit.proofs.LentLaws.{cached_refused, cached_done}
 use Rattle.unit.proofs.lent.cached_read_packed.Goals as goal
 
 pub returns-then-file-lt474 : goal.returns-then-file-lt474

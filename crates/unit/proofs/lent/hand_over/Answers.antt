@@ -7,7 +7,7 @@ use borrow.Author.Tests.{lt-leb, le-leb, eq-eqb, ne_eqb}
 use Rattle.refusals.specs.Refusals.{file_refusal, tables_refusal, block_refusal}
 use Rattle.unit.specs.Unit.{handed}
 use Rattle.unit.specs.CacheWords.{cache_block, formed, cache_refusal, hand_over_words_if}
-use Rattle.unit.specs.LentLaws.{handed_refused, handed_taken, handed_same}
+use Rattle.unit.proofs.LentLaws.{handed_refused, handed_taken, handed_same}
 use Rattle.unit.proofs.lent.hand_over.Goals as goal
 
 pub returns-then-file-lt474 : goal.returns-then-file-lt474

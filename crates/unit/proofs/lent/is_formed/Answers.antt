@@ -2,7 +2,7 @@
 use mathlib.Core.Path.{sym, ap, ◌∙◌}
 use Rattle.sources.specs.Steps.{given}
 use Rattle.unit.specs.Steps.{is_formed}
-use Rattle.unit.specs.LentLaws.{form_formed}
+use Rattle.unit.proofs.LentLaws.{form_formed}
 use Rattle.unit.proofs.lent.is_formed.Goals as goal
 
 pub returns-in-Off : goal.returns-in-Off

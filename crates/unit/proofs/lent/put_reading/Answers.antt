@@ -4,7 +4,7 @@ use mathlib.Core.Path.{sym, ap, ◌∙◌}
 use Prim.Native.Nat.{ℕ}
 use lib.ListN.{replicate}
 use Rattle.block.specs.Block.{packed}
-use Rattle.unit.specs.LentLaws.{decoded_range, reading_lit, reading_off}
+use Rattle.unit.proofs.LentLaws.{decoded_range, reading_lit, reading_off}
 use Rattle.unit.proofs.lent.put_reading.Goals as goal
 
 pub read_lit-requires : goal.read_lit-requires

@@ -3,8 +3,8 @@ use native.Mathlib.Omega.{arith}
 use mathlib.Core.Path.{sym, ap, ◌∙◌}
 use lib.ListN.{length, length-set}
 use Rattle.decoding.specs.KeptLaws.{kept_whole}
-use Rattle.unit.specs.MeaningLaws.{anew_long}
-use Rattle.unit.specs.LentLaws.{anew_words_lem, kept_long}
+use Rattle.unit.proofs.MeaningLaws.{anew_long}
+use Rattle.unit.proofs.LentLaws.{anew_words_lem, kept_long}
 use Rattle.unit.proofs.lent.read_anew.Goals as goal
 
 pub slice_bounds-keep-end : goal.slice_bounds-keep-end

@@ -4,7 +4,7 @@ use mathlib.Core.Path.{sym, ap, ◌∙◌}
 use mathlib.Core.List.{List}
 use Prim.Native.Nat.{ℕ}
 use Rattle.unit.specs.CacheWords.{cache_block, formed}
-use Rattle.unit.specs.LentLaws.{block_part, anew_formed, kept_refreshed, anew_refreshed}
+use Rattle.unit.proofs.LentLaws.{block_part, anew_formed, kept_refreshed, anew_refreshed}
 use Rattle.unit.proofs.lent.refresh.Goals as goal
 
 pub returns-then-is_current : goal.returns-then-is_current

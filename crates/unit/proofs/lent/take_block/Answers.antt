@@ -6,7 +6,7 @@ use mathlib.Core.Path.{◌≡◌, sym, ap, ◌∙◌}
 use lib.ListN.{length, replicate, length-drop}
 use lib.Seq.{get_or-drop}
 use Rattle.unit.specs.CacheWords.{cache_block}
-use Rattle.unit.specs.LentLaws.{block_part, off_block, lit_block}
+use Rattle.unit.proofs.LentLaws.{block_part, off_block, lit_block}
 use Rattle.unit.proofs.lent.take_block.Goals as goal
 
 pub returns-then-cache-eq0 : goal.returns-then-cache-eq0

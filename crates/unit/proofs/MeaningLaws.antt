@@ -16,7 +16,7 @@ use Rattle.decoding.specs.Read.{read, registers_read, registers_read_count}
 use Rattle.decoding.specs.KeptLaws.{kept_whole}
 use Rattle.block.specs.Block.{words, all_zero, zeros, well_formed, block_reading, accepted, packed_reading}
 use Rattle.block.specs.Claims.{WordsHeld}
-use Rattle.block.specs.ReadLaws.{read_packs, read_accepted}
+use Rattle.block.proofs.ReadLaws.{read_packs, read_accepted}
 use Rattle.unit.specs.declared.Cache.{Cache}
 use Rattle.unit.specs.Unit.{fresh_cache, cached, current, read_anew, refreshed, cached_read_if, read_number, cached_block, packs_cached, cached_read_packed_if, handed, hand_over_refusal, packable, taken, hand_over_read, hand_over_if, hand_over}
 use Rattle.unit.specs.HandOverLaws.{long_file, hand_over_lengths}

@@ -7,7 +7,7 @@ use Rattle.refusals.specs.declared.Refusal.TheVariants.{ShortFile, WrongTables, 
 use Rattle.sources.specs.Sources.{words_of}
 use Rattle.capture_check.specs.Contents.{contents, sized, shaped, registers_right, capture_words_refusal, capture_refusal}
 use Rattle.capture_calls.specs.Capture.{largest_output, short_output, number_by, Captured, captured_by, printed, prints_into, captures}
-use Rattle.capture_calls.specs.PrintedLaws.{printed_fits}
+use Rattle.capture_calls.proofs.PrintedLaws.{printed_fits}
 use Rattle.capture_calls.specs.declared.Answer.{Answer}
 
 refusal_other : (input : List ℕ) → capture_refusal input ≡ short_output → ⊥

@@ -21,7 +21,7 @@ use Rattle.lists.specs.Calls.{Lent, ShortFile, lent, step, answer}
 use Rattle.lists.specs.Calls.Call.{Read}
 use Rattle.lists.specs.Calls.Lent.{own}
 use Rattle.lists.specs.Plain.{accepts, Machine, does, plain_step}
-use Rattle.lists.specs.LentLaws.{size-lent, is_own}
+use Rattle.lists.proofs.LentLaws.{size-lent, is_own}
 use Rattle.lists.specs.Invariant.{Sound, Inv}
 use Rattle.lists.specs.InvariantLaws.{stays, moves}
 

@@ -6,7 +6,7 @@ use Rattle.lighting.specs.Forms.{every}
 use Rattle.lighting.specs.Lighting.{off, on}
 use Rattle.block.specs.Block.{words, zeros, all_zero, well_formed, block_lighting, block_reading, words_refusal, BlockAnswer, block_answer, read_refusal, block_read}
 use Rattle.block.specs.Claims.{ZeroReadsOff, OffIsZero}
-use Rattle.block.specs.ReadLaws.{all_zero_words}
+use Rattle.block.proofs.ReadLaws.{all_zero_words}
 
 pub zero_block : all_zero (words (replicate 328 0)) ≡ true
 unfolding all_zero zeros every

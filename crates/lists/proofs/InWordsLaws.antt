@@ -1,13 +1,13 @@
 -- Demand 3 holds of the implementation whose caches are lent words, since it holds of ours, whose caches they mean. Assumes nothing.
 use Rattle.std.specs.Prelude.{refl}
 use Rattle.unit.specs.Meaning.{cache_of}
-use Rattle.unit.specs.MeaningLaws.{Kept, anew_keeps, empty_means, empty_keeps, reads_as_meant, cached_read_leaves, hand_over_means, hand_over_leaves}
+use Rattle.unit.proofs.MeaningLaws.{Kept, anew_keeps, empty_means, empty_keeps, reads_as_meant, cached_read_leaves, hand_over_means, hand_over_leaves}
 use Rattle.lists.specs.Ours.{ours}
 use Rattle.lists.specs.InWords.{in_words}
 use Rattle.lists.specs.Claim.{Demand3, Answers}
 use Rattle.lists.specs.Meant.{Meant}
 use Rattle.lists.specs.MeantLaws.{demand3_meant, answers_meant}
-use Rattle.lists.specs.Demand3Laws.{every_list_shades_alike, every_answer_is_the_machines}
+use Rattle.lists.proofs.Demand3Laws.{every_list_shades_alike, every_answer_is_the_machines}
 
 words_meant : Meant ours in_words cache_of Kept
 words_meant =

@@ -16,7 +16,7 @@ use Rattle.lists.specs.Calls.{Call, run}
 use Rattle.lists.specs.Ours.{ours}
 use Rattle.lists.specs.Plain.{accepts, Machine, zero_machine, plain_step, plain_run, plain}
 use Rattle.lists.specs.Claim.{HandsOver, EndsHandedOver, shade_from, Demand3}
-use Rattle.lists.specs.Demand3Laws.{every_list_shades_alike}
+use Rattle.lists.proofs.Demand3Laws.{every_list_shades_alike}
 use Rattle.capture_check.specs.Contents.{Body, body_count, contents, contents_end, words_in, gapless, shaped}
 use Rattle.capture_check.specs.ContentsLaws.{lies_end, gapless_head, gapless_rest, shaped_end, shaped-gapless, contents_count}
 use Rattle.capture_lines.specs.Lines.{no_answer, fragment_lines, body_lines}
@@ -25,7 +25,7 @@ use Rattle.capture_lines.specs.LinesLaws.{lines_alike, body_fits}
 use Rattle.block_shading.specs.FragmentsLaws.{eight_long}
 use Rattle.capture_calls.specs.Capture.{hand_over_call, body_calls, machine_after, machine_shades, machine_prints}
 use Rattle.capture_calls.specs.Steps.{after_body, after_lines, copy_prints}
-use Rattle.capture_calls.specs.CallLaws.{kind_2_hands_over, body_calls_few, words_in_few}
+use Rattle.capture_calls.proofs.CallLaws.{kind_2_hands_over, body_calls_few, words_in_few}
 use Rattle.capture_calls.specs.RunLaws.{run_append}
 
 plain_append : (m : Machine) (cs ds : List Call) → plain_run 474 m (cs ++ ds) ≡ plain_run 474 (plain_run 474 m cs) ds

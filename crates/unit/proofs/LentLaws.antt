@@ -8,11 +8,11 @@ use borrow.Author.Tests.{le-leb, eq-eqb, ne_eqb, leb-true}
 use Rattle.refusals.specs.Refusals.{file_refusal, block_refusal, tables_refusal, ◌else◌}
 use Rattle.block.specs.declared.BlockForm.TheVariants.{Off, NotWellFormed, NanFree, WithNan}
 use Rattle.block.specs.Block.{words, all_zero, well_formed, packed, packed_reading}
-use Rattle.block.specs.AcceptedLaws.{accepted_range}
+use Rattle.block.proofs.AcceptedLaws.{accepted_range}
 use Rattle.lighting.specs.Lighting.{in_range}
 use Rattle.block.specs.Steps.{nan_free, form_of, block_form}
 use Rattle.block.specs.FormedLaws.{formed_parts}
-use Rattle.block.specs.ReadLaws.{all_zero_words}
+use Rattle.block.proofs.ReadLaws.{all_zero_words}
 use Rattle.block.specs.TestLaws.{never}
 use Rattle.decoding.specs.Read.{read, registers_read}
 use Rattle.decoding.specs.KeptLaws.{kept_whole}
@@ -20,7 +20,7 @@ use Rattle.unit.specs.Unit.{packable, read_number, cached_block, handed}
 use Rattle.unit.specs.Steps.{is_formed}
 use Rattle.unit.specs.HandOverLaws.{long_file}
 use Rattle.unit.specs.DecodedLaws.{decoded_packable, packed_length}
-use Rattle.unit.specs.MeaningLaws.{decoded_formed, anew_block}
+use Rattle.unit.proofs.MeaningLaws.{decoded_formed, anew_block}
 use Rattle.unit.specs.CacheWords.{cache_count, cache_block, cache_refusal, formed, current_words, anew_words, refreshed_words, cached_words_if, cached_read_words, block_number, packs_cached_words, cached_read_packed_words_if, cached_read_packed_words, taken_words, hand_over_words_read, hand_over_words_if, hand_over_words}
 
 -- ---- a block

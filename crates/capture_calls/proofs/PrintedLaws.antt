@@ -10,7 +10,7 @@ use Rattle.printing.specs.TextLaws.{refused_most}
 use Rattle.capture_check.specs.Contents.{body_count, contents, contents_end, sized, shaped, capture_words_refusal, capture_refusal}
 use Rattle.capture_check.specs.ContentsLaws.{shaped-gapless, sized_most}
 use Rattle.capture_calls.specs.Capture.{largest_output, printed_if, printed}
-use Rattle.capture_calls.specs.MachineLaws.{machine_fits}
+use Rattle.capture_calls.proofs.MachineLaws.{machine_fits}
 use Rattle.capture_calls.specs.RefusalLaws.{not_refused_shaped}
 
 -- "A bad capture prints only `refused N`."

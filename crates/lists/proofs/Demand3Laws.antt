@@ -15,10 +15,10 @@ use Rattle.lists.specs.Claim.{HandsOver, EndsHandedOver, Demand3, Answered, Answ
 use Rattle.lists.specs.Invariant.{Inv, Shows}
 use Rattle.lists.specs.InvariantLaws.{fresh_holds}
 use Rattle.lists.specs.ShadesLaws.{block_shades_lem}
-use Rattle.lists.specs.WriteCallLaws.{writes, accepts_write, write_answer}
-use Rattle.lists.specs.RestoreCallLaws.{restores, accepts_restore, restore_answer}
-use Rattle.lists.specs.ReadCallLaws.{reads, accepts_read, read_answer}
-use Rattle.lists.specs.HandOverCallLaws.{hand_overs_lem, accepts_hand_over, hand_over_answer}
+use Rattle.lists.proofs.WriteCallLaws.{writes, accepts_write, write_answer}
+use Rattle.lists.proofs.RestoreCallLaws.{restores, accepts_restore, restore_answer}
+use Rattle.lists.proofs.ReadCallLaws.{reads, accepts_read, read_answer}
+use Rattle.lists.proofs.HandOverCallLaws.{hand_overs_lem, accepts_hand_over, hand_over_answer}
 
 module _ (n : ℕ) where
   -- one call

@@ -19,10 +19,10 @@ use Rattle.lists.specs.Calls.{Lent, ShortFile, NotTables, NotBlock, lent, left, 
 use Rattle.lists.specs.Calls.Call.{HandOver}
 use Rattle.lists.specs.Calls.Lent.{own}
 use Rattle.lists.specs.Plain.{accepts, Machine, does, plain_step}
-use Rattle.lists.specs.LentLaws.{size-lent, left-lent, is_own}
+use Rattle.lists.proofs.LentLaws.{size-lent, left-lent, is_own}
 use Rattle.lists.specs.Invariant.{Inv, Shows}
 use Rattle.lists.specs.InvariantLaws.{stays}
-use Rattle.lists.specs.ReadCallLaws.{decodes, reads_own}
+use Rattle.lists.proofs.ReadCallLaws.{decodes, reads_own}
 
 -- what is taken answers 0
 taken-number : (c : Cache) (t : List ℕ) (g : ℕ) (ct : List ℕ) (cg : ℕ) → (taken c t g ct cg).number ≡ 0

@@ -15,7 +15,7 @@ use Rattle.lists.specs.Calls.{Lent, NotTables, lent, left, step, answer}
 use Rattle.lists.specs.Calls.Call.{Restore}
 use Rattle.lists.specs.Calls.Lent.{own}
 use Rattle.lists.specs.Plain.{accepts, Machine, machine, does, plain_step}
-use Rattle.lists.specs.LentLaws.{size-lent, left-lent, is_own}
+use Rattle.lists.proofs.LentLaws.{size-lent, left-lent, is_own}
 use Rattle.lists.specs.Invariant.{Inv}
 use Rattle.lists.specs.InvariantLaws.{stays, moves, not_last}
 

@@ -4,16 +4,16 @@ use Rattle.std.proofs.Common.{arith, sym, ap, ◌∙◌}
 use Rattle.std.proofs.Math.Path.{refl}
 use Rattle.refusals.specs.Refusals.{file_refusal, ◌else◌}
 use Rattle.unit.specs.Unit.{Cached, Handed, hand_over_refusal}
-use Rattle.unit.specs.MeaningLaws.{other_read_refused, other_hand_over_refused}
+use Rattle.unit.proofs.MeaningLaws.{other_read_refused, other_hand_over_refused}
 use Rattle.lists.specs.States.{State, fresh}
 use Rattle.lists.specs.Calls.{Call, lent, step, answer, run}
 use Rattle.lists.specs.Calls.Call.{Write, Restore, Read, HandOver}
-use Rattle.lists.specs.LentLaws.{left-lent}
+use Rattle.lists.proofs.LentLaws.{left-lent}
 use Rattle.lists.specs.Claim.{Demand3}
 use Rattle.lists.specs.InWords.{in_words}
 use Rattle.lists.specs.LentCache.{NotCache, TakesCache, WordCall, with_cache, word_step, word_run, owns, Demand3Lent}
 use Rattle.lists.specs.LentCache.WordCall.{on_own, on_lent}
-use Rattle.lists.specs.InWordsLaws.{every_list_shades_alike_in_words}
+use Rattle.lists.proofs.InWordsLaws.{every_list_shades_alike_in_words}
 
 module _ (s : State (List ℕ)) (c : List ℕ) (h : NotCache (length c)) where
   lent_changes_nothing : (call : Call) → TakesCache call → with_cache s.unit.cache (step in_words (with_cache c s) call) ≡ s

@@ -7,8 +7,8 @@ use Rattle.std.proofs.Math.Path.{refl, ap₂, subst}
 use Rattle.std.proofs.Math.Seq.{take-set-lt}
 use Rattle.std.proofs.Math.Dec.{ltb, leb, eqb-suc-zero}
 use Rattle.tables.specs.Tables.{is_data, index, moved, put, changes, raised, Wrote, write_refusal, write_if, write}
-use Rattle.tables.specs.UploadLaws.{length-put, put_same}
-use Rattle.tables.specs.WriteLaws.{write_data, write_register, write-number}
+use Rattle.tables.proofs.UploadLaws.{length-put, put_same}
+use Rattle.tables.proofs.WriteLaws.{write_data, write_register, write-number}
 use Rattle.tables.specs.RefusalLaws.{write_lengths, write_test}
 use Rattle.unit.specs.declared.Cache.{Cache}
 use Rattle.lists.specs.Ours.{ours}
@@ -17,7 +17,7 @@ use Rattle.lists.specs.Calls.{Lent, ShortFile, NotTables, lent, left, step, answ
 use Rattle.lists.specs.Calls.Call.{Write}
 use Rattle.lists.specs.Calls.Lent.{own}
 use Rattle.lists.specs.Plain.{accepts, Machine, machine, plain_write, does, plain_step}
-use Rattle.lists.specs.LentLaws.{size-lent, left-lent, is_own}
+use Rattle.lists.proofs.LentLaws.{size-lent, left-lent, is_own}
 use Rattle.lists.specs.Invariant.{Rises, Matches, Inv}
 use Rattle.lists.specs.InvariantLaws.{stays, moves, not_last}
 

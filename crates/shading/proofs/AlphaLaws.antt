@@ -13,7 +13,7 @@ use Rattle.light_steps.specs.declared.types.LightingLookups.{LightingLookups}
 use Rattle.light_steps.specs.declared.types.Settings.{Settings}
 use Rattle.light_steps.specs.Steps.{added_of, summed_of, with_values_by, with_values, step_of}
 use Rattle.shading.specs.Shade.{shade}
-use Rattle.shading.specs.ShadeLaws.{shade_law}
+use Rattle.shading.proofs.ShadeLaws.{shade_law}
 use Rattle.shading.specs.Steps.{shadowed_alpha, finish_of, lighting_settings, finished_of, sums_by, shade_by, shade_of}
 
 one : quantized_of float1 ≡ 255

@@ -13,7 +13,7 @@ use Rattle.block.specs.FormedLaws.{Formed, formed_parts}
 use Rattle.block.specs.SmallLaws.{unused_zero}
 use Rattle.block.specs.FlagLaws.{small_bit, flags7, flags_back, needs_word_back}
 use Rattle.block.specs.ListLaws.{picks, picks_append, picks-from, picked_all, one, zero_picks}
-use Rattle.block.specs.PackedLaws.{flags_are}
+use Rattle.block.proofs.PackedLaws.{flags_are}
 use Rattle.block.specs.WordLaws.{word_back, scale_back, bump_word_back, bump_unit_small, shadow_word_back, shadow_unit_small, LookupFormed, LookupBack, lookup_words_back, zero_at, distance_words_back}
 
 -- a light's words

@@ -36,7 +36,7 @@ use Rattle.block.specs.TestLaws.{never, ◌also◌, or_first, or_second, chain_f
 use Rattle.block.specs.FormedLaws.{Shaped, formed_parts, formed_made}
 use Rattle.block.specs.FlagLaws.{flag_is, bit_small, bit_formed, flag_4, flags_small, needs_back, needs_small}
 use Rattle.block.specs.ListLaws.{picks, picks_at, slot_lit, slot_unlit, count_of}
-use Rattle.block.specs.PackedLaws.{range_bump, range_shadow, range_some, range_count, range_number, flags_are}
+use Rattle.block.proofs.PackedLaws.{range_bump, range_shadow, range_some, range_count, range_number, flags_are}
 use Rattle.block.specs.SmallLaws.{passes}
 use Rattle.block.specs.WordLaws.{number_is, number_formed, small_formed}
 

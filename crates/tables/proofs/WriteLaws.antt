@@ -6,7 +6,7 @@ use Rattle.std.proofs.Math.Bool.{and-false}
 use Rattle.std.proofs.Math.Seq.{take-set-lt}
 use Rattle.refusals.specs.Refusals.{file_refusal, tables_refusal, register_refusal, ◌else◌}
 use Rattle.tables.specs.Tables.{is_data, index, moved, moved_on, put_entry, put, changes, last, raised, Wrote, wrote, write_refusal, upload, write_if, write}
-use Rattle.tables.specs.UploadLaws.{put_same, put_changed, put_entry_differs}
+use Rattle.tables.proofs.UploadLaws.{put_same, put_changed, put_entry_differs}
 use Rattle.tables.specs.RefusalLaws.{write_lengths}
 
 -- the lengths and the register that a write past 1, 2 and 3 has

@@ -1,0 +1,4 @@
+pub mod CallLaws
+pub mod MachineLaws
+pub mod PrintedLaws
+pub mod AnswerLaws

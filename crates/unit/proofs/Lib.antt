@@ -1,0 +1,2 @@
+pub mod MeaningLaws
+pub mod LentLaws
