@@ -6,7 +6,7 @@ use Rattle.std.proofs.Math.Path.{ap, subst}
 use Rattle.std.proofs.Common.{◌∙◌, inr}
 use Rattle.std.proofs.Math.Dec.{eqb, eqb-suc-zero}
 use Rattle.tables.specs.Tables.{Restored, restore_refusal, restore_if}
-use Rattle.tables.specs.RestoreLaws.{restore-number}
+use Rattle.tables.proofs.RestoreLaws.{restore-number}
 use Rattle.tables.specs.RefusalLaws.{restore_lengths, restore_test}
 use Rattle.unit.specs.declared.Cache.{Cache}
 use Rattle.lists.specs.Ours.{ours}

@@ -2,3 +2,4 @@ pub mod Examples
 pub mod UploadLaws
 pub mod WriteLaws
 pub mod ListLaws
+pub mod RestoreLaws

@@ -1,4 +1,3 @@
 pub mod Tables
 pub mod GenerationLaws
 pub mod RefusalLaws
-pub mod RestoreLaws

@@ -15,7 +15,7 @@ use Rattle.refusals.specs.declared.Refusal.{Refusal}
 use Rattle.lighting.specs.declared.OptionalLighting.{OptionalLighting}
 use Rattle.block.specs.Block.{packed, Packing, packing, accepted, lighting_refusal, pack_refusal, packed_reading, packs}
 use Rattle.tables.specs.Tables.{Saved, saved, save_refusal, save}
-use Rattle.tables.specs.RestoreLaws.{save_data}
+use Rattle.tables.proofs.RestoreLaws.{save_data}
 use Rattle.unit.specs.Unit.{packable}
 use Rattle.tables.specs.RefusalLaws.{refusal_not_zero}
 use Rattle.unit.specs.Steps.{packs_reading, takes, took}
