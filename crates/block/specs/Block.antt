@@ -1,6 +1,6 @@
 -- The block of a lighting, to be laid beside `Lighting::pack` and document 01: where things stand in it, the words that are packed, which blocks are
 -- well formed, what a block reads as, and what packing and the block reader answer. Definitions only.
-use Rattle.std.specs.Prelude.{ℕ, zero, suc, ◌+◌, ◌*◌, ◌-◌, ◌/◌, ◌%◌, List, [], ◌∷◌, ◌++◌, map, Bool, ◌&&◌, ◌||◌, not, ltb, leb, eqb, get_or, replicate, length, Float}
+use Rattle.std.specs.Prelude.{ℕ, zero, suc, ◌+◌, ◌*◌, ◌-◌, ◌/◌, ◌%◌, List, [], ◌∷◌, ◌++◌, map, Bool, ◌&&◌, ◌||◌, not, ltb, leb, eqb, get_or, replicate, length, Float, if◌then◌else◌}
 use mir.Val.{bool_byte}
 use Rattle.refusals.specs.Refusals.{outcome_number, block_refusal, ◌else◌}
 use Rattle.binary32.specs.Binary32.{word_of, float_of}
@@ -18,7 +18,7 @@ use Rattle.lighting.specs.declared.OptionalShadow.{OptionalShadow}
 use Rattle.lighting.specs.declared.OptionalShadow.TheVariants.{Unshadowed, Shadowed}
 use Rattle.lighting.specs.declared.Lighting.{Lighting}
 use Rattle.lighting.specs.declared.OptionalLighting.{OptionalLighting}
-use Rattle.lighting.specs.Forms.{if◌then◌else◌, every}
+use Rattle.lighting.specs.Forms.{every}
 use Rattle.lighting.specs.Lighting.{blank_light, off, on, slot_of, light_at, is_scaled, in_range}
 use Rattle.block.specs.declared.BlockRead.{BlockRead}
 

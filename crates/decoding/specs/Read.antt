@@ -3,13 +3,12 @@
 -- That the code's own steps come to this: ReadLaws. The contracts of `decode`, `read` and `registers_read` cite it.
 -- The registers and tables by name, registers[r] and the bits of a word are in Registers; the three kinds of number that registers hold are the
 -- fields chapter's: short_float (pica_float; it ignores bits above the sign, which the Rust masks), colour_of (color) and fixed_of (fixed).
-use Rattle.std.specs.Prelude.{ℕ, zero, suc, ◌+◌, ◌*◌, ◌/◌, ◌^◌, List, [], ◌∷◌, ◌++◌, map, Bool, true, false, not, ◌&&◌, ◌||◌, eqb, ltb, pos, length, get_or, take, drop, Float}
+use Rattle.std.specs.Prelude.{ℕ, zero, suc, ◌+◌, ◌*◌, ◌/◌, ◌^◌, List, [], ◌∷◌, ◌++◌, map, Bool, true, false, not, ◌&&◌, ◌||◌, eqb, ltb, pos, length, get_or, take, drop, Float, if◌then◌else◌}
 use Rattle.std.specs.Float.{binary32}
 use Rattle.std.specs.Float.Ieee.{of_int}
 use Rattle.refusals.specs.Refusals.{outcome_number, file_refusal}
 use Rattle.fields.specs.Fields.{colour_of, fixed_of, short_float}
 use Rattle.vectors.specs.Vectors.{◌⊘◌, normalized_of}
-use Rattle.lighting.specs.Forms.{if◌then◌else◌}
 use Rattle.lighting.specs.Lighting.{slot_of, blank_light, off, table_distribution0, table_distribution1, table_fresnel, table_reflect_blue, table_reflect_green, table_reflect_red, table_spotlight}
 use Rattle.lighting.specs.declared.Bump.{Bump}
 use Rattle.lighting.specs.declared.Bump.TheVariants.{Flat, Normal, Tangent}

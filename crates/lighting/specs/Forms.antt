@@ -1,10 +1,5 @@
--- Rust's forms, as the law files write them. Definitions only.
-use Rattle.std.specs.Prelude.{ℕ, zero, suc, Bool, true, cond, ◌&&◌}
-
--- if b { x } else { y }
-infixr 20 if◌then◌else◌
-abbrev pub if◌then◌else◌ : {A : Type 0} → Bool → A → A → A
-if◌then◌else◌ b x y = cond b x y
+-- A Rust form, as the law files write it. Definitions only.
+use Rattle.std.specs.Prelude.{ℕ, zero, suc, Bool, true, ◌&&◌}
 
 -- (0..n).all(p)
 unfoldable pub every : ℕ → (ℕ → Bool) → Bool

@@ -1,6 +1,5 @@
 -- Demand 3: "a single claim about every list, not one for each call", said of an implementation. Definitions only.
-use Rattle.std.specs.Prelude.{ℕ, ◌+◌, ◌≤◌, ◌<◌, ◌≡◌, List, [], ◌∷◌, true, length, eqb}
-use Rattle.lighting.specs.Forms.{if◌then◌else◌}
+use Rattle.std.specs.Prelude.{ℕ, ◌+◌, ◌≤◌, ◌<◌, ◌≡◌, List, [], ◌∷◌, true, length, eqb, if◌then◌else◌}
 use Rattle.decoding.specs.Read.{read}
 use Rattle.shading.specs.Shade.{Shaded, shaded}
 use Rattle.block_shading.specs.BlockShading.{eight_of}

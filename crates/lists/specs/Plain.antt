@@ -1,6 +1,5 @@
 -- The plain machine of demand 3: "It holds 474 registers and 6144 entries, all zero", and "has no cache, generation or copy". Definitions only.
-use Rattle.std.specs.Prelude.{ℕ, List, [], ◌∷◌, Bool, ◌&&◌, length, get_or, set, replicate, ltb, leb, eqb}
-use Rattle.lighting.specs.Forms.{if◌then◌else◌}
+use Rattle.std.specs.Prelude.{ℕ, List, [], ◌∷◌, Bool, ◌&&◌, length, get_or, set, replicate, ltb, leb, eqb, if◌then◌else◌}
 use Rattle.tables.specs.Tables.{is_data, moved, put}
 use Rattle.lists.specs.Calls.{Call, Lent}
 use Rattle.lists.specs.Calls.Call.{Write, Restore, Read, HandOver}

@@ -4,7 +4,7 @@
 -- A vector, a quaternion, a texel and a sum are lists of floats, and `at v i` is v[i]. ⊕ ⊖ ⊗ ⊘ are binary32's + − · /, each rounded once.
 -- From elsewhere: max, min, clamp, the places in a table and the quantised channel (Binary32), root (Root), dot, normalized, rotate (Vectors), a table's
 -- value + step · delta (Tables), and the tables' numbers (Lighting).
-use Rattle.std.specs.Prelude.{ℕ, zero, suc, ◌+◌, Bool, false, cond, ◌&&◌, List, [], ◌∷◌, ◌++◌, map, length, get_or, ◌==◌, nat_eq, slice_index_or, Float}
+use Rattle.std.specs.Prelude.{ℕ, zero, suc, ◌+◌, Bool, false, cond, ◌&&◌, List, [], ◌∷◌, ◌++◌, map, length, get_or, ◌==◌, nat_eq, slice_index_or, Float, if◌then◌else◌}
 use Rattle.std.specs.Float.Ieee.{eq, lt, neg}
 use Rattle.refusals.specs.Refusals.{tables_refusal, answer_refusal, ◌else◌}
 use Rattle.binary32.specs.Binary32.{float0, float1, magnitude_of, max_of, min_of, clamp_of, unsigned_place_of, signed_place_of, quantized_of, channel_of}
@@ -12,7 +12,6 @@ use Rattle.binary32.specs.declared.Place.{Place}
 use Rattle.root.specs.Root.{root_of}
 use Rattle.vectors.specs.Vectors.{at, ◌⊕◌, ◌⊖◌, ◌⊗◌, ◌⊘◌, two, dot_of, normalized_of, rotate_of}
 use Rattle.tables.specs.Tables.{table_lookup}
-use Rattle.lighting.specs.Forms.{if◌then◌else◌}
 use Rattle.lighting.specs.Lighting.{zero_vector, slot_of, light_at, table_distribution0, table_distribution1, table_fresnel, table_reflect_blue, table_reflect_green, table_reflect_red, table_spotlight, table_distance}
 use Rattle.lighting.specs.declared.Slot.{Slot}
 use Rattle.lighting.specs.declared.Light.{Light}

@@ -1,9 +1,8 @@
 -- The cached read and the hand-over on a cache that is words lent by the caller: a flag, 0 for an empty cache; the 139 kept words; and the block of
 -- their lighting, 328 words, all zero for off. Meaning says what they come to in Unit's terms. Definitions only.
-use Rattle.std.specs.Prelude.{ℕ, zero, suc, ◌+◌, List, ◌∷◌, ◌++◌, Bool, not, ◌&&◌, ◌||◌, eqb, length, get_or, take, drop, replicate}
+use Rattle.std.specs.Prelude.{ℕ, zero, suc, ◌+◌, List, ◌∷◌, ◌++◌, Bool, not, ◌&&◌, ◌||◌, eqb, length, get_or, take, drop, replicate, if◌then◌else◌}
 use Rattle.refusals.specs.Refusals.{file_refusal, block_refusal, ◌else◌}
 use Rattle.sources.specs.Sources.{same_words}
-use Rattle.lighting.specs.Forms.{if◌then◌else◌}
 use Rattle.decoding.specs.Read.{read, registers_read, registers_read_count}
 use Rattle.block.specs.Block.{words, all_zero, well_formed, packed_reading}
 use Rattle.unit.specs.Unit.{Cached, cached, CachedBlock, cached_block, Handed, handed, hand_over_refusal}

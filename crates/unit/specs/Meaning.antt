@@ -1,6 +1,5 @@
 -- Which cache lent words mean, and that a call on the words is the call on that cache. Statements only.
-use Rattle.std.specs.Prelude.{ℕ, ◌<◌, ◌≡◌, List, not, length, eqb}
-use Rattle.lighting.specs.Forms.{if◌then◌else◌}
+use Rattle.std.specs.Prelude.{ℕ, ◌<◌, ◌≡◌, List, not, length, eqb, if◌then◌else◌}
 use Rattle.lighting.specs.Lighting.{blank_lighting, on}
 use Rattle.lighting.specs.declared.OptionalLighting.{OptionalLighting}
 use Rattle.block.specs.Block.{words, block_reading}

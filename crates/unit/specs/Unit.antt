@@ -1,10 +1,9 @@
 -- A unit's cache and the two calls that go through it: the cached read, which is the Rust's `LastLighting::read`, and the hand-over to a copy; and the reads as
 -- they cross the C boundary. Definitions only; the contracts of `fresh_cache`, `cached_read`, `hand_over` and `lent::read_packed` cite them, those of `lent`'s
 -- other calls by way of Meaning.
-use Rattle.std.specs.Prelude.{ℕ, zero, suc, List, Bool, true, false, not, ◌&&◌, ◌||◌, eqb, length, replicate}
+use Rattle.std.specs.Prelude.{ℕ, zero, suc, List, Bool, true, false, not, ◌&&◌, ◌||◌, eqb, length, replicate, if◌then◌else◌}
 use Rattle.refusals.specs.Refusals.{outcome_number, file_refusal, tables_refusal, block_refusal, ◌else◌}
 use Rattle.sources.specs.Sources.{same_words}
-use Rattle.lighting.specs.Forms.{if◌then◌else◌}
 use Rattle.lighting.specs.Lighting.{off}
 use Rattle.lighting.specs.declared.OptionalLighting.{OptionalLighting}
 use Rattle.decoding.specs.Read.{read, registers_read, registers_read_count}
