@@ -41,15 +41,15 @@ minus128 = float_of 0xc300_0000
 -- ---- "Floor, magnitude, max, min and clamp follow Rust"
 
 -- the whole part of m · 2^e, and whether a rest is left
-abbrev pub whole_part_lem : ℕ → ℤ → ℕ
-whole_part_lem m e = m * up e / down e
+abbrev pub whole_part : ℕ → ℤ → ℕ
+whole_part m e = m * up e / down e
 
 abbrev pub has_rest : ℕ → ℤ → Bool
 has_rest m e = not (eqb (m * up e % down e) 0)
 
 -- the magnitude of the floor of ±m · 2^e: below zero a rest takes it one further down
 abbrev pub floor_part : Bool → ℕ → ℤ → ℕ
-floor_part s m e = cond (s && has_rest m e) (whole_part_lem m e + 1) (whole_part_lem m e)
+floor_part s m e = cond (s && has_rest m e) (whole_part m e + 1) (whole_part m e)
 
 -- the largest whole number that is not above x; it keeps x's sign, so −0 stays −0 (FloorLaws: the rounding changes nothing)
 unfoldable pub floor_of : Float → Float

@@ -32,15 +32,15 @@ floor_value (fin t m e) s a c h v =
     ∙ ap (λ (b : Bool). round binary32 b (part b a c) 1) v.0
 
 -- a whole number is its own floor
-whole_part : (s : Bool) (n : ℕ) → part s n 1 ≡ n
-whole_part s n = ap (λ (z : ℕ). cond (s && not (eqb z 0)) (n / 1 + 1) (n / 1)) (mod-one n) ∙ none s ∙ div-one n
+whole_part_lem : (s : Bool) (n : ℕ) → part s n 1 ≡ n
+whole_part_lem s n = ap (λ (z : ℕ). cond (s && not (eqb z 0)) (n / 1 + 1) (n / 1)) (mod-one n) ∙ none s ∙ div-one n
   where
     none : (s : Bool) → cond (s && false) (n / 1 + 1) (n / 1) ≡ n / 1
     none true = refl
     none false = refl
 
 pub stays : (x : Float) (s : Bool) (n : ℕ) → T (fits binary32 x) → HasValue x s n 1 → floor_of x ≡ x
-stays x s n p v = floor_value x s n 1 (zero-lt-suc 0) v ∙ ap (λ (z : ℕ). round binary32 s z 1) (whole_part s n) ∙ round_own x s n 1 p (zero-lt-suc 0) v
+stays x s n p v = floor_value x s n 1 (zero-lt-suc 0) v ∙ ap (λ (z : ℕ). round binary32 s z 1) (whole_part_lem s n) ∙ round_own x s n 1 p (zero-lt-suc 0) v
 
 -- ---- NaN and the zeros
 pub floor_nan : floor_of nan ≡ nan

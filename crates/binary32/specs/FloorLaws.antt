@@ -9,7 +9,7 @@ use Rattle.std.specs.Float.Ieee.Back.{round_whole}
 use Rattle.std.specs.Float.Ieee.Exact.{HasValue}
 use Rattle.std.specs.Float.Ieee.Fits.{down_pos}
 use Rattle.binary32.specs.ValueLaws.{held, round_own}
-use Rattle.binary32.specs.Binary32.{whole_part_lem, has_rest, floor_part, floor_of}
+use Rattle.binary32.specs.Binary32.{whole_part, has_rest, floor_part, floor_of}
 
 -- ---- it is exact
 at_most_one_more : (b : Bool) (q : ℕ) → cond b (q + 1) q ≤ q + 1
@@ -41,7 +41,7 @@ floor_exact s m (pos k) h =
     subst (λ (n : ℕ). HasValue (round binary32 s n 1) s n 1) (sym is) (subst (λ (x : Float). HasValue x s a 1) (sym (round_own (fin s m (pos k)) s a 1 h (zero-lt-suc 0) own)) own)
 floor_exact s m (negsuc k) h =
     round_whole binary32 s (floor_part s m (negsuc k))
-    (le_trans (at_most_one_more (s && has_rest m (negsuc k)) (whole_part_lem m (negsuc k))) (half_as_many m k (held s m (negsuc k) h).few))
+    (le_trans (at_most_one_more (s && has_rest m (negsuc k)) (whole_part m (negsuc k))) (half_as_many m k (held s m (negsuc k) h).few))
 
 -- ---- below zero, in magnitude: n − 1 < m * 2 ^ e ≤ n
 bounds : (q r d a : ℕ) (b : Bool) → q * d + r ≡ a → r < d → b ≡ not (eqb r 0) → (a ≤ cond b (q + 1) q * d) × (cond b (q + 1) q * d < a + d)
@@ -65,4 +65,4 @@ bounds q r d a false e l t = down_none (q * d) e l (none r t)
     down_none p e l h = (omega arith, omega arith)
 
 pub floor_below_zero : (m : ℕ) (e : ℤ) → (m * up e ≤ floor_part true m e * down e) × (floor_part true m e * down e < m * up e + down e)
-floor_below_zero m e = bounds (whole_part_lem m e) (m * up e % down e) (down e) (m * up e) (has_rest m e) (div-add-mod' (m * up e) (down e)) (mod-lt (m * up e) (down_pos e)) refl
+floor_below_zero m e = bounds (whole_part m e) (m * up e % down e) (down e) (m * up e) (has_rest m e) (div-add-mod' (m * up e) (down e)) (mod-lt (m * up e) (down_pos e)) refl

@@ -1,5 +1,5 @@
-// The block of a lighting: its words, which blocks are well formed, and what a block reads as. The definitions are specs/Block.antt, and their laws stand
-// beside it. Here are the answers of the check and of the reader, and what packing, the check, the reader and shading ask of a part.
+// The block of a lighting: its words, which blocks are well formed, and what a block reads as. The definitions are specs/Block.antt, and their laws stand in specs/ beside
+// it and in proofs/. Here are the answers of the check and of the reader, and what packing, the check, the reader and shading ask of a part.
 #![tactic(auto)]
 
 pub mod accepted;

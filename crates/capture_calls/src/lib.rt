@@ -1,5 +1,5 @@
 // What a capture does and prints, and what the library call answers of it. specs/Capture is the law: the calls of a body, what the plain machine prints after them, the library call's
-// answer; specs/MachineLaws has why unit and copy print the same. Code there is only for the answer.
+// answer; proofs/MachineLaws has why unit and copy print the same. Code there is only for the answer.
 #![tactic(auto)]
 
 ghost use Rattle.std.specs.Prelude.{List, ◌≡◌, ℕ};

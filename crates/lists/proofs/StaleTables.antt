@@ -1,4 +1,4 @@
--- Demand 3 fails for hand_overs_lem that take the block and the generation and leave the copy's tables, each time or from the second on: the
+-- Demand 3 fails for hand-overs that take the block and the generation and leave the copy's tables, each time or from the second on: the
 -- generations are then equal and the tables are not. The copy shades a lantern with the falloff before, black where the machine gives white, or
 -- white where it gives black. Assumes nothing.
 use Prim.Native.Nat.{ℕ}

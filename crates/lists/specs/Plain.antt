@@ -48,7 +48,7 @@ unfoldable pub does : Machine → Call → Machine
 does m (Write f t r v) = plain_write m r v
 -- "A restore replaces every entry with its saved words."
 does m (Restore t saved) = machine m.registers saved
--- "Cached reads and hand_overs_lem change nothing."
+-- "Cached reads and hand-overs change nothing."
 does m (Read f) = m
 does m (HandOver f t ct b) = m
 

@@ -1,5 +1,5 @@
 -- Serves only the proofs that demand 3 refuses them: wrong implementations, each ours but for one call. Four are those of which document 01 says
--- that they fail by demand 3; three are wrong in less, a shader that paints one colour only where the lighting is on and two hand_overs_lem that leave
+-- that they fail by demand 3; three are wrong in less, a shader that paints one colour only where the lighting is on and two hand-overs that leave
 -- only the copy's tables. Definitions only.
 use Rattle.std.specs.Prelude.{ℕ, List, cond, eqb}
 use Rattle.tables.specs.Tables.{Wrote, write, wrote, restore}

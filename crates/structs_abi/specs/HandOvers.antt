@@ -1,4 +1,4 @@
--- For tests alone: hand_overs_lem of two register files in turn. Definitions only.
+-- For tests alone: hand-overs of two register files in turn. Definitions only.
 use Rattle.std.specs.Prelude.{ℕ, zero, suc, List}
 use Rattle.unit.specs.Unit.{Handed, hand_over}
 use Rattle.unit.specs.declared.Cache.{Cache}

@@ -122,7 +122,7 @@ pub extern "C" fn structs_cached_reads(file: &[u32], other: &[u32], block: &mut 
     }
 }
 
-// `pairs` times two hand_overs_lem, from an empty cache: of `file` at the generation `first`, then of `other` at the generation `second`. Returns the
+// `pairs` times two hand-overs, from an empty cache: of `file` at the generation `first`, then of `other` at the generation `second`. Returns the
 // number of the last; `age` is the copy's generation.
 #[unsafe(no_mangle)]
 pub extern "C" fn structs_hand_overs(

@@ -11,7 +11,7 @@ use Rattle.unit.specs.declared.Cache.{Cache}
 use Rattle.structs_abi.proofs.structs_hand_overs.Goals as goal
 
 module _ (f o t : List ℕ) (g k : ℕ) where
-  -- a pair of hand_overs_lem, from h by way of m to l
+  -- a pair of hand-overs, from h by way of m to l
   pair : (n : ℕ) (h m l : Handed Cache) → 0 < n → m ≡ next f t g h → l ≡ next o t k m → hand_overs f o t g k (n - 1) l ≡ hand_overs f o t g k n h
   unfolding hand_overs
   pair zero h m l p a b = absurd (omega arith)
