@@ -12,6 +12,7 @@ pub(crate) fn configuration(file: &[u32]) -> u32
 }
 
 // Which tables a lighting configuration has room for.
+#[tactic(auto, unfolding(crate::specs::Read::supported))]
 pub(crate) fn supported(config: u32, table: u32) -> bool
     ensures { result ≡ supported_of config table }
 {
