@@ -1,19 +1,17 @@
 -- What the types of a lighting say: every float is a value of binary32, and every vector has three. Statements only.
-use Rattle.std.specs.Prelude.{ℕ, ◌<◌, T}
+use Rattle.std.specs.Prelude.{ℕ, ◌<◌, T, Option, None, Some}
 use Rattle.std.specs.Float.{binary32}
 use Rattle.std.specs.Float.Ieee.{fits}
 use Rattle.vectors.specs.Claims.{Vector}
-use Rattle.lighting.specs.declared.OptionalLookup.{OptionalLookup}
-use Rattle.lighting.specs.declared.OptionalLookup.TheVariants.{Missing, Present}
+use Rattle.lighting.specs.declared.Lookup.{Lookup}
 use Rattle.lighting.specs.declared.Distance.{Distance}
-use Rattle.lighting.specs.declared.Distance.TheVariants.{Without, Scaled}
 use Rattle.lighting.specs.declared.Light.{Light}
 use Rattle.lighting.specs.declared.Lighting.{Lighting}
 use Rattle.lighting.specs.Lighting.{slot_of, light_at}
 
-abbrev pub DistanceFits : Distance → Type 0
-DistanceFits Without = Unit {0}
-DistanceFits (Scaled bias scale) = T (fits binary32 bias) × T (fits binary32 scale)
+abbrev pub DistanceFits : Option Distance → Type 0
+DistanceFits None = Unit {0}
+DistanceFits (Some distance) = T (fits binary32 distance.bias) × T (fits binary32 distance.scale)
 
 pub record LightFits (l : Light) : Type 0 where
   pub specular0 : Vector l.specular0
@@ -28,9 +26,9 @@ pub record LightFits (l : Light) : Type 0 where
 abbrev pub LightsFit : Lighting → Type 0
 LightsFit l = (s : ℕ) → s < 8 → LightFits (light_at l (slot_of s))
 
-abbrev pub LookupFits : OptionalLookup → Type 0
-LookupFits Missing = Unit {0}
-LookupFits (Present l) = T (fits binary32 l.scale)
+abbrev pub LookupFits : Option Lookup → Type 0
+LookupFits None = Unit {0}
+LookupFits (Some l) = T (fits binary32 l.scale)
 
 pub record LightingFits (l : Lighting) : Type 0 where
   pub lights : LightsFit l

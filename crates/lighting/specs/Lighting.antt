@@ -1,18 +1,14 @@
 -- What is said of a lighting: the tables by number, the blank light and lighting, off and on, the light of a slot, and which lightings are in range. Definitions only.
-use Rattle.std.specs.Prelude.{ℕ, List, [], ◌∷◌, Bool, true, false, ◌&&◌, leb, replicate, get_or, Float}
+use Rattle.std.specs.Prelude.{ℕ, List, [], ◌∷◌, Bool, false, ◌&&◌, leb, replicate, get_or, Float, Option, None, Some, is_some}
 use Rattle.std.specs.Float.{binary32}
 use Rattle.std.specs.Float.Ieee.{of_bits}
 use Rattle.lighting.specs.declared.Slot.{Slot}
 use Rattle.lighting.specs.declared.Distance.{Distance}
-use Rattle.lighting.specs.declared.Distance.TheVariants.{Without, Scaled}
 use Rattle.lighting.specs.declared.Light.{Light}
-use Rattle.lighting.specs.declared.OptionalLookup.TheVariants.{Missing}
 use Rattle.lighting.specs.declared.Bump.{Bump}
 use Rattle.lighting.specs.declared.Bump.TheVariants.{Flat, Normal, Tangent}
-use Rattle.lighting.specs.declared.OptionalShadow.{OptionalShadow}
-use Rattle.lighting.specs.declared.OptionalShadow.TheVariants.{Unshadowed, Shadowed}
+use Rattle.lighting.specs.declared.Shadow.{Shadow}
 use Rattle.lighting.specs.declared.Lighting.{Lighting}
-use Rattle.lighting.specs.declared.OptionalLighting.{OptionalLighting}
 use Rattle.lighting.specs.Forms.{every}
 
 -- ---- the tables, by number
@@ -65,7 +61,7 @@ dark_light v =
       two_sided = false;
       geometric0 = false;
       geometric1 = false;
-      distance = Without;
+      distance = None;
       spotlight = false;
       shadowed = false;
       number = record { 0 = 0 };
@@ -75,7 +71,7 @@ dark_light v =
 unfoldable pub blank_light : Light
 blank_light = dark_light zero_vector
 
--- what stands beside a flag that says off
+-- the lighting that gives nothing
 unfoldable pub blank_lighting : Lighting
 blank_lighting =
     record {
@@ -83,12 +79,12 @@ blank_lighting =
       light_count = 0;
       global_ambient = zero_vector;
       config = 0;
-      distribution0 = Missing;
-      distribution1 = Missing;
-      fresnel = Missing;
-      reflect_red = Missing;
-      reflect_green = Missing;
-      reflect_blue = Missing;
+      distribution0 = None;
+      distribution1 = None;
+      fresnel = None;
+      reflect_red = None;
+      reflect_green = None;
+      reflect_blue = None;
       spotlight = record { input = 0; absolute = false; scale = zero_float };
       fresnel_primary = false;
       fresnel_secondary = false;
@@ -96,18 +92,18 @@ blank_lighting =
       needs_half = false;
       needs_view = false;
       bump = Flat;
-      shadow = Unshadowed;
+      shadow = None;
     }
 
 -- ---- the optional lighting
 
 -- None
-abbrev pub off : OptionalLighting
-off = record { on = false; lighting = blank_lighting }
+abbrev pub off : Option Lighting
+off = None
 
 -- Some(l)
-abbrev pub on : Lighting → OptionalLighting
-on l = record { on = true; lighting = l }
+abbrev pub on : Lighting → Option Lighting
+on l = Some l
 
 -- ---- the lights in their slots
 
@@ -124,9 +120,8 @@ unfoldable pub light_at : Lighting → Slot → Light
 light_at l slot = get_or l.lights slot.0 no_light
 
 -- light.distance.is_some()
-unfoldable pub is_scaled : Distance → Bool
-is_scaled Without = false
-is_scaled (Scaled bias scale) = true
+unfoldable pub is_scaled : Option Distance → Bool
+is_scaled distance = is_some distance
 
 -- ---- the texture units, 0 where there is none
 
@@ -135,9 +130,9 @@ bump_unit Flat = 0
 bump_unit (Normal unit rebuild) = unit
 bump_unit (Tangent unit) = unit
 
-unfoldable pub shadow_unit : OptionalShadow → ℕ
-shadow_unit Unshadowed = 0
-shadow_unit (Shadowed shadow) = shadow.unit
+unfoldable pub shadow_unit : Option Shadow → ℕ
+shadow_unit None = 0
+shadow_unit (Some shadow) = shadow.unit
 
 -- ---- lightings made by the caller
 

@@ -22,30 +22,23 @@ pub struct Lookup {
     pub scale: f32,
 }
 
-// A lookup that a draw may do without.
-#[derive(Clone, Copy)]
-pub enum OptionalLookup {
-    Missing,
-    Present(Lookup),
-}
-
-// The tables of a draw; those of the spotlights are read alike, and always have a lookup.
+// The tables of a draw, some of which it may do without; those of the spotlights are read alike, and always have a lookup.
 #[derive(Clone, Copy)]
 pub struct TableLookups {
-    pub distribution0: OptionalLookup,
-    pub distribution1: OptionalLookup,
-    pub fresnel: OptionalLookup,
-    pub reflect_red: OptionalLookup,
-    pub reflect_green: OptionalLookup,
-    pub reflect_blue: OptionalLookup,
+    pub distribution0: Option<Lookup>,
+    pub distribution1: Option<Lookup>,
+    pub fresnel: Option<Lookup>,
+    pub reflect_red: Option<Lookup>,
+    pub reflect_green: Option<Lookup>,
+    pub reflect_blue: Option<Lookup>,
     pub spotlight: Lookup,
 }
 
-// Whether the light's distance table is read, and then its bias and its scale.
+// How a light's distance table is read: the bias and the scale of the distance.
 #[derive(Clone, Copy)]
-pub enum Distance {
-    Without,
-    Scaled(f32, f32),
+pub struct Distance {
+    pub bias: f32,
+    pub scale: f32,
 }
 
 #[derive(Clone, Copy)]
@@ -63,7 +56,8 @@ pub struct Light {
     pub two_sided: bool,
     pub geometric0: bool,
     pub geometric1: bool,
-    pub distance: Distance,
+    // none where the distance table is not read
+    pub distance: Option<Distance>,
     pub spotlight: bool,
     pub shadowed: bool,
     pub number: LightNumber,
@@ -87,23 +81,17 @@ pub struct Shadow {
 }
 
 #[derive(Clone, Copy)]
-pub enum OptionalShadow {
-    Unshadowed,
-    Shadowed(Shadow),
-}
-
-#[derive(Clone, Copy)]
 pub struct Lighting {
     pub lights: [Light; 8],
     pub light_count: usize,
     pub global_ambient: [f32; 3],
     pub config: u32,
-    pub distribution0: OptionalLookup,
-    pub distribution1: OptionalLookup,
-    pub fresnel: OptionalLookup,
-    pub reflect_red: OptionalLookup,
-    pub reflect_green: OptionalLookup,
-    pub reflect_blue: OptionalLookup,
+    pub distribution0: Option<Lookup>,
+    pub distribution1: Option<Lookup>,
+    pub fresnel: Option<Lookup>,
+    pub reflect_red: Option<Lookup>,
+    pub reflect_green: Option<Lookup>,
+    pub reflect_blue: Option<Lookup>,
     pub spotlight: Lookup,
     // whether fresnel replaces the primary and the secondary alpha
     pub fresnel_primary: bool,
@@ -113,17 +101,11 @@ pub struct Lighting {
     pub needs_half: bool,
     pub needs_view: bool,
     pub bump: Bump,
-    pub shadow: OptionalShadow,
-}
-
-// The lighting of a draw, or none: where it is off, the lighting beside the flag is the blank one.
-#[derive(Clone, Copy)]
-pub struct OptionalLighting {
-    pub on: bool,
-    pub lighting: Lighting,
+    pub shadow: Option<Shadow>,
 }
 
 // What stands in a slot that isn't lit.
+#[tactic(auto, unfolding(crate::specs::Lighting::blank_light))]
 pub fn blank_light() -> Light
     ensures { result ≡ blank_light }
 {
@@ -139,14 +121,15 @@ pub fn blank_light() -> Light
         two_sided: false,
         geometric0: false,
         geometric1: false,
-        distance: Distance::Without,
+        distance: None,
         spotlight: false,
         shadowed: false,
         number: LightNumber(0),
     }
 }
 
-// What stands beside a flag that says off.
+// The lighting that gives nothing: no light is on, and every optional part is missing.
+#[tactic(auto, unfolding(crate::specs::Lighting::blank_lighting))]
 pub fn blank_lighting() -> Lighting
     ensures { result ≡ blank_lighting }
 {
@@ -156,12 +139,12 @@ pub fn blank_lighting() -> Lighting
         light_count: 0,
         global_ambient: [0.0, 0.0, 0.0],
         config: 0,
-        distribution0: OptionalLookup::Missing,
-        distribution1: OptionalLookup::Missing,
-        fresnel: OptionalLookup::Missing,
-        reflect_red: OptionalLookup::Missing,
-        reflect_green: OptionalLookup::Missing,
-        reflect_blue: OptionalLookup::Missing,
+        distribution0: None,
+        distribution1: None,
+        fresnel: None,
+        reflect_red: None,
+        reflect_green: None,
+        reflect_blue: None,
         spotlight: Lookup {
             input: 0,
             absolute: false,
@@ -173,11 +156,12 @@ pub fn blank_lighting() -> Lighting
         needs_half: false,
         needs_view: false,
         bump: Bump::Flat,
-        shadow: OptionalShadow::Unshadowed,
+        shadow: None,
     }
 }
 
 // The texture unit that perturbs the surface, 0 where there is none.
+#[tactic(auto, unfolding(crate::specs::Lighting::bump_unit))]
 pub fn bump_unit(bump: Bump) -> usize
     ensures { result ≡ bump_unit bump }
 {
@@ -189,21 +173,20 @@ pub fn bump_unit(bump: Bump) -> usize
 }
 
 // The texture unit that holds the shadow, 0 where there is none.
-pub fn shadow_unit(shadow: OptionalShadow) -> usize
+#[tactic(auto, unfolding(crate::specs::Lighting::shadow_unit))]
+pub fn shadow_unit(shadow: Option<Shadow>) -> usize
     ensures { result ≡ shadow_unit shadow }
 {
     match shadow {
-        OptionalShadow::Unshadowed => 0,
-        OptionalShadow::Shadowed(s) => s.unit,
+        None => 0,
+        Some(shadow) => shadow.unit,
     }
 }
 
 // Whether a light has a distance table.
-pub fn is_scaled(distance: Distance) -> bool
+#[tactic(auto, unfolding(crate::specs::Lighting::is_scaled))]
+pub fn is_scaled(distance: Option<Distance>) -> bool
     ensures { result ≡ is_scaled distance }
 {
-    match distance {
-        Distance::Without => false,
-        Distance::Scaled(_, _) => true,
-    }
+    distance.is_some()
 }

@@ -1,10 +1,10 @@
 -- "Refusals by operation" of document 01: the number of each refusal, 0 being none, and those that a length or a register decides. Definitions only.
 -- A call's refusals, in the paper's order, stand in the call's chapter.
-use Rattle.std.specs.Prelude.{ℕ, zero, suc, cond, eqb, ltb, leb}
+use Rattle.std.specs.Prelude.{ℕ, zero, suc, cond, eqb, ltb, leb, Result, Ok, Err}
 use Rattle.refusals.specs.declared.Refusal.{Refusal}
 use Rattle.refusals.specs.declared.Refusal.TheVariants.{ShortFile, WrongTables, HighRegister, LastGeneration, WrongSaved, WrongBlock, NotWellFormed, BadCapture, WrongFragment}
-use Rattle.refusals.specs.declared.Outcome.{Outcome}
-use Rattle.refusals.specs.declared.Outcome.TheVariants.{Done, Refused}
+use Rattle.refusals.specs.declared.Switch.{Switch}
+use Rattle.refusals.specs.declared.Switch.TheVariants.{On, Off}
 
 -- ---- What an answer says
 
@@ -21,9 +21,15 @@ number_of BadCapture = 8
 number_of WrongFragment = 9
 
 -- 0 where the call is done
-abbrev pub outcome_number : Outcome → ℕ
-outcome_number Done = 0
-outcome_number (Refused k) = number_of k
+abbrev pub outcome_number : Result (Unit {0}) Refusal → ℕ
+outcome_number (Ok done) = 0
+outcome_number (Err k) = number_of k
+
+-- 0 where the call is done, 100 where the lighting is off
+abbrev pub switch_number : Result Switch Refusal → ℕ
+switch_number (Ok On) = 0
+switch_number (Ok Off) = 100
+switch_number (Err k) = number_of k
 
 -- ---- By a length or a register
 

@@ -1,10 +1,10 @@
-// Document 01's refusals, one case for each of its numbers, and what a call answers that brings nothing else: that it is done, or its refusal.
+// Document 01's refusals, one case for each of its numbers, and the number of what a call answers: that it is done, that a lighting is off, or a refusal.
 #![tactic(auto)]
 
 ghost use Rattle.std.specs.Prelude.{◌≡◌};
-ghost use Rattle.refusals.specs.Refusals.{number_of, outcome_number};
+ghost use Rattle.refusals.specs.Refusals.{number_of, outcome_number, switch_number};
 
-#[derive(Clone, Copy)]
+#[derive(Clone, Copy, PartialEq, Eq)]
 pub enum Refusal {
     // 1: a register file under 474 words
     ShortFile,
@@ -26,35 +26,49 @@ pub enum Refusal {
     WrongFragment,
 }
 
-#[derive(Clone, Copy)]
-pub enum Outcome {
-    Done,
-    Refused(Refusal),
+// Whether the lighting that a call was given is on: off is no refusal, though nothing is coloured.
+#[derive(Clone, Copy, PartialEq, Eq)]
+pub enum Switch {
+    On,
+    Off,
 }
 
 // The paper's number.
-pub fn number(refusal: Refusal) -> u32
-    ensures { result ≡ number_of refusal }
-{
-    match refusal {
-        Refusal::ShortFile => 1,
-        Refusal::WrongTables => 2,
-        Refusal::HighRegister => 3,
-        Refusal::LastGeneration => 4,
-        Refusal::WrongSaved => 5,
-        Refusal::WrongBlock => 6,
-        Refusal::NotWellFormed => 7,
-        Refusal::BadCapture => 8,
-        Refusal::WrongFragment => 9,
+impl From<Refusal> for u32 {
+    fn from(refusal: Refusal) -> u32
+        ensures { result ≡ number_of refusal }
+    {
+        match refusal {
+            Refusal::ShortFile => 1,
+            Refusal::WrongTables => 2,
+            Refusal::HighRegister => 3,
+            Refusal::LastGeneration => 4,
+            Refusal::WrongSaved => 5,
+            Refusal::WrongBlock => 6,
+            Refusal::NotWellFormed => 7,
+            Refusal::BadCapture => 8,
+            Refusal::WrongFragment => 9,
+        }
     }
 }
 
 // 0 where the call is done.
-pub fn outcome_number(outcome: Outcome) -> u32
+pub fn outcome_number(outcome: Result<(), Refusal>) -> u32
     ensures { result ≡ outcome_number outcome }
 {
     match outcome {
-        Outcome::Done => 0,
-        Outcome::Refused(refusal) => number(refusal),
+        Ok(()) => 0,
+        Err(refusal) => u32::from(refusal),
+    }
+}
+
+// 0 where the call is done, 100 where the lighting is off.
+pub fn switch_number(answer: Result<Switch, Refusal>) -> u32
+    ensures { result ≡ switch_number answer }
+{
+    match answer {
+        Ok(Switch::On) => 0,
+        Ok(Switch::Off) => 100,
+        Err(refusal) => outcome_number(Err(refusal)),
     }
 }

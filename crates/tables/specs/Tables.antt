@@ -2,15 +2,13 @@
 -- upload" and "Refusals by operation" of document 01, whose sentences are quoted, and beside `Tables` of the Rust. Definitions only.
 -- A register file f and a table slice t are lists of words; `get_or t i 0` is t[i], and `set t i w` is t with the word w at i.
 -- From elsewhere: the bits of an uploaded word's value and step (fields), a word as a float (binary32), and the refusals by length and register.
-use Rattle.std.specs.Prelude.{ℕ, zero, suc, ◌+◌, ◌-◌, ◌*◌, ◌/◌, ◌%◌, Bool, true, false, cond, not, ◌&&◌, List, [], ◌∷◌, length, ◌==◌, nat_le, nat_lt, slice_index, slice_set, Float}
+use Rattle.std.specs.Prelude.{ℕ, zero, suc, ◌+◌, ◌-◌, ◌*◌, ◌/◌, ◌%◌, Bool, true, false, cond, not, ◌&&◌, List, [], ◌∷◌, length, ◌==◌, nat_le, nat_lt, slice_index, slice_set, Float, Result, Ok, Err}
 use Rattle.std.specs.Float.{binary32}
 use Rattle.std.specs.Float.Ieee.{add, mul}
 use Rattle.refusals.specs.Refusals.{number_of, outcome_number, file_refusal, tables_refusal, register_refusal, saved_refusal, ◌else◌}
-use Rattle.refusals.specs.declared.Outcome.{Outcome}
+use Rattle.refusals.specs.declared.Refusal.{Refusal}
 use Rattle.binary32.specs.Binary32.{float_of}
 use Rattle.fields.specs.Fields.{upload_value_bits, upload_step_bits}
-use Rattle.tables.specs.declared.Written.{Written}
-use Rattle.tables.specs.declared.Written.TheVariants.{Refused, Done}
 use Rattle.tables.specs.declared.WrittenEach.{WrittenEach}
 
 -- ---- The entry that register 1C5 names
@@ -109,9 +107,9 @@ abbrev pub write : List ℕ → List ℕ → ℕ → ℕ → ℕ → Wrote
 write f t g r v = write_if (write_refusal (length f) (length t) r) f t g r v
 
 -- what an answer says, where the call found the generation g and left the file f and the tables t
-abbrev pub wrote_of : Written → ℕ → List ℕ → List ℕ → Wrote
-wrote_of (Refused k) g f t = wrote (number_of k) f t g
-wrote_of (Done h) g f t = wrote 0 f t h
+abbrev pub wrote_of : Result ℕ Refusal → ℕ → List ℕ → List ℕ → Wrote
+wrote_of (Err k) g f t = wrote (number_of k) f t g
+wrote_of (Ok h) g f t = wrote 0 f t h
 
 -- ---- A list of writes, one after another, up to the first that is refused
 
@@ -169,9 +167,9 @@ abbrev pub restore : List ℕ → ℕ → List ℕ → Restored
 restore t g saved = restore_if (restore_refusal (length t) saved) t g saved
 
 -- what an answer says, where the call found the generation g and left the tables t
-abbrev pub restored_of : Written → ℕ → List ℕ → Restored
-restored_of (Refused k) g t = restored (number_of k) t g
-restored_of (Done h) g t = restored 0 t h
+abbrev pub restored_of : Result ℕ Refusal → ℕ → List ℕ → Restored
+restored_of (Err k) g t = restored (number_of k) t g
+restored_of (Ok h) g t = restored 0 t h
 
 -- ---- Save
 
@@ -197,7 +195,7 @@ abbrev pub save : List ℕ → List ℕ → Saved
 save t s = save_if (save_refusal (length t) (length s)) t s
 
 -- what an answer says, where the call left the output s
-abbrev pub saved_of : Outcome → List ℕ → Saved
+abbrev pub saved_of : Result (Unit {0}) Refusal → List ℕ → Saved
 saved_of o s = saved (outcome_number o) s
 
 -- ---- Lookup

@@ -7,22 +7,15 @@ pub mod entries;
 pub mod lists;
 pub mod registers;
 
-use refusals::{Outcome, Refusal};
+use refusals::Refusal;
 
 // The generation that cannot rise.
-pub(crate) const LAST_GENERATION: u64 = 0xFFFF_FFFF_FFFF_FFFF;
+pub(crate) const LAST_GENERATION: u64 = u64::MAX;
 
-// A refusal, or the generation afterwards.
-#[derive(Clone, Copy)]
-pub enum Written {
-    Refused(Refusal),
-    Done(u64),
-}
-
-// What a list of writes answers: Done, or the refusal of the first write that was refused; how many were made, and the generation after them.
+// What a list of writes answers: that all are done, or the refusal of the first write that was refused; how many were made, and the generation after them.
 #[derive(Clone, Copy)]
 pub struct WrittenEach {
-    pub outcome: Outcome,
+    pub outcome: Result<(), Refusal>,
     pub done: usize,
     pub generation: u64,
 }

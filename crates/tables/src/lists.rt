@@ -2,9 +2,8 @@
 ghost use Rattle.std.specs.Prelude.{◌≡◌};
 ghost use Rattle.tables.specs.Tables.{writes, write_each, writes_of};
 
+use crate::WrittenEach;
 use crate::registers::write;
-use crate::{Written, WrittenEach};
-use refusals::Outcome;
 
 // The pairs of register and value one after another, up to the first that is refused: those before it are made. A word that is left over at the end is none.
 pub fn write_each(
@@ -21,21 +20,21 @@ pub fn write_each(
     while i < count {
         let written = write(file, tables, g, pairs[2 * i], pairs[2 * i + 1]);
         match written {
-            Written::Refused(refusal) => {
+            Err(refusal) => {
                 return WrittenEach {
-                    outcome: Outcome::Refused(refusal),
+                    outcome: Err(refusal),
                     done: i,
                     generation: g,
                 };
             }
-            Written::Done(raised) => {
+            Ok(raised) => {
                 g = raised;
             }
         }
         i += 1;
     }
     WrittenEach {
-        outcome: Outcome::Done,
+        outcome: Ok(()),
         done: count,
         generation: g,
     }

@@ -2,7 +2,7 @@
 ghost use Rattle.std.specs.Prelude.{◌≡◌, ◌≤◌, length};
 ghost use Rattle.tables.specs.Tables.{moved as moved_of, upload as upload_of, write as write_of, wrote_of};
 
-use crate::{LAST_GENERATION, Written};
+use crate::LAST_GENERATION;
 use refusals::Refusal;
 
 const REG_TABLE_INDEX: usize = 0x1C5;
@@ -12,15 +12,16 @@ const REG_TABLE_DATA: u32 = 0x1C8;
 const REG_TABLE_DATA_END: u32 = 0x1CF;
 
 // The index register's word with its entry moved on by one, 255 going to 0; the bits above stay.
+#[tactic(auto, unfolding(crate::specs::Tables::moved))]
 fn moved(index: u32) -> u32
     ensures { result ≡ moved_of index }
 {
     let entry = index % 256;
-    index - entry + std::num::wrapping_add_u8(entry as u8, 1) as u32
+    index - entry + (entry as u8).wrapping_add(1) as u32
 }
 
-// Takes a word of table data, into the table and entry that the index register names, which then moves on to the next entry.
-fn upload(file: &mut [u32], tables: &mut [u32], generation: u64, value: u32) -> Written
+// Takes a word of table data, into the table and entry that the index register names, which then moves on to the next entry; the generation afterwards.
+fn upload(file: &mut [u32], tables: &mut [u32], generation: u64, value: u32) -> Result<u64, Refusal>
     requires { (474 ≤ length file.old) × (length tables.old ≡ 12288) }
     ensures { wrote_of result generation file.new tables.new ≡ upload_of file.old tables.old generation value }
 {
@@ -28,7 +29,7 @@ fn upload(file: &mut [u32], tables: &mut [u32], generation: u64, value: u32) -> 
     let table = index / 256 % 32;
     if table >= 24 {
         file[REG_TABLE_INDEX] = moved(index);
-        return Written::Done(generation);
+        return Ok(generation);
     }
     let next = moved(index);
     let at = (2 * (256 * table + index % 256)) as usize;
@@ -36,41 +37,41 @@ fn upload(file: &mut [u32], tables: &mut [u32], generation: u64, value: u32) -> 
     let step = fields::upload::upload_step_bits(value);
     if tables[at] == bits && tables[at + 1] == step {
         file[REG_TABLE_INDEX] = next;
-        return Written::Done(generation);
+        return Ok(generation);
     }
     if generation == LAST_GENERATION {
-        return Written::Refused(Refusal::LastGeneration);
+        return Err(Refusal::LastGeneration);
     }
     let raised = generation + 1;
     tables[at] = bits;
     tables[at + 1] = step;
     file[REG_TABLE_INDEX] = next;
-    Written::Done(raised)
+    Ok(raised)
 }
 
-// A write to a register: table data goes into the tables, any other word into the file.
+// A write to a register: table data goes into the tables, any other word into the file; the generation afterwards.
 pub fn write(
     file: &mut [u32],
     tables: &mut [u32],
     generation: u64,
     register: u32,
     value: u32,
-) -> Written
+) -> Result<u64, Refusal>
     ensures { wrote_of result generation file.new tables.new ≡ write_of file.old tables.old generation register value }
 {
     if file.len() < 474 {
-        return Written::Refused(Refusal::ShortFile);
+        return Err(Refusal::ShortFile);
     }
     if tables.len() != 12288 {
-        return Written::Refused(Refusal::WrongTables);
+        return Err(Refusal::WrongTables);
     }
     if register >= 474 {
-        return Written::Refused(Refusal::HighRegister);
+        return Err(Refusal::HighRegister);
     }
     if register >= REG_TABLE_DATA && register <= REG_TABLE_DATA_END {
         return upload(file, tables, generation, value);
     }
     let at = register as usize;
     file[at] = value;
-    Written::Done(generation)
+    Ok(generation)
 }

@@ -21,4 +21,4 @@ pub returns : goal.returns
 unfolding restore_if tables_refusal saved_refusal last
 returns c =
     let at = c.before.before.before.before in
-    simp (eq-eqb _ _ at.if-tables-ne12288.false, eq-eqb _ _ at.if-saved-ne12288.false, ne_eqb _ _ at.if-generation-eq-LAST_GENERATION.false, c.copy.ensures)
+    simp (eq-eqb _ _ at.if-tables-ne12288.false, eq-eqb _ _ at.if-saved-ne12288.false, ne_eqb _ _ at.if-generation-eq-LAST_GENERATION.false, c.copy_from_slice.ensures.after)

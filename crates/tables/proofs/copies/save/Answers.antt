@@ -16,4 +16,4 @@ pub returns : goal.returns
 unfolding save_if tables_refusal saved_refusal
 returns c =
     let at = c.before.before.before.before in
-    simp (eq-eqb _ _ at.if-tables-ne12288.false, eq-eqb _ _ at.if-output-ne12288.false, c.copy.ensures)
+    simp (eq-eqb _ _ at.if-tables-ne12288.false, eq-eqb _ _ at.if-output-ne12288.false, c.copy_from_slice.ensures.after)

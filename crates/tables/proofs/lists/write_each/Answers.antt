@@ -6,19 +6,19 @@ use Rattle.tables.specs.RefusalLaws.{refusal_not_zero}
 use Rattle.tables.proofs.ListLaws.{none_left, made, refused}
 use Rattle.tables.proofs.lists.write_each.Goals as goal
 
-pub returns-in-Refused : goal.returns-in-Refused
-returns-in-Refused c =
+pub returns-in-Err : goal.returns-in-Err
+returns-in-Err c =
     let a = c.args in
     let l = c.loop-i in
     let w = c.write-written in
-    refused l.file l.tables l.g a.pairs.now l.i (omega arith) _ (refusal_not_zero c.in-Refused.refusal) _ _ l.g (rw c.in-Refused.is at w.ensures) ∙ l.invariant.4
+    refused l.file l.tables l.g a.pairs.now l.i (omega arith) _ (refusal_not_zero c.in-Err.refusal) _ _ l.g (rw c.in-Err.is at w.ensures) ∙ l.invariant.4
 
 pub loop-i-preserved : goal.loop-i-preserved
 loop-i-preserved c =
     let a = c.args in
     let l = c.loop-i in
     let w = c.write-written in
-    (omega arith, l.invariant.1, w.auto.file ∙ l.invariant.2, w.auto.tables ∙ l.invariant.3, made l.file l.tables l.g a.pairs.now l.i (omega arith) _ _ _ (rw c.in-Done.is at w.ensures) ∙ l.invariant.4)
+    (omega arith, l.invariant.1, w.auto.file ∙ l.invariant.2, w.auto.tables ∙ l.invariant.3, made l.file l.tables l.g a.pairs.now l.i (omega arith) _ _ _ (rw c.in-Ok.is at w.ensures) ∙ l.invariant.4)
 
 pub returns : goal.returns
 returns c =
