@@ -1,6 +1,8 @@
 -- The lightings that `pack` accepts are the acceptable ones. Of an acceptable lighting's words each clause of a well-formed block holds by itself,
 -- and from the words of an accepted one the same clauses give back what is acceptable. Assumes nothing.
-use Rattle.std.specs.Prelude.{ℕ, zero, suc, ◌+◌, ◌-◌, ◌*◌, ◌/◌, ◌%◌, ◌<◌, ◌≤◌, ◌≡◌, Bool, false, not, ◌&&◌, ◌||◌, T, get_or, Float}
+use Rattle.std.specs.Cmp.{both_ways}
+use Rattle.std.proofs.lemmas.Bool.{and_parts}
+use Rattle.std.specs.Prelude.{ℕ, zero, suc, ◌+◌, ◌-◌, ◌*◌, ◌/◌, ◌%◌, ◌<◌, ◌≤◌, ◌≡◌, Bool, false, not, ◌&&◌, ◌||◌, T, get_or, Float, None, Option, Some}
 use Rattle.std.proofs.Common.{arith, zero-add, sym, ap, subst, ◌∙◌}
 use Rattle.std.proofs.Math.Path.{refl}
 use Rattle.std.proofs.Math.Bool.{true}
@@ -11,19 +13,13 @@ use Rattle.std.specs.Float.{nan, inf, fin, binary32}
 use Rattle.std.specs.Float.Ieee.{is_nan, to_bits, fits}
 use Rattle.std.specs.Float.Ieee.Bits.{of_bits-to_bits, nan_bits_is, nan_bits_above}
 use borrow.Author.Tests.{eq-eqb, lt-ltb, le-ltb, le-leb, ltb-true, ltb-false}
-use Rattle.flags.specs.FlagsLaws.{both_first, both_second, alike}
 use Rattle.binary32.specs.Binary32.{word_of}
 use Rattle.vectors.specs.Vectors.{at}
 use Rattle.vectors.specs.Claims.{Vector}
 use Rattle.lighting.specs.declared.Lookup.{Lookup}
-use Rattle.lighting.specs.declared.OptionalLookup.{OptionalLookup}
-use Rattle.lighting.specs.declared.OptionalLookup.TheVariants.{Missing, Present}
 use Rattle.lighting.specs.declared.Distance.{Distance}
-use Rattle.lighting.specs.declared.Distance.TheVariants.{Without, Scaled}
 use Rattle.lighting.specs.declared.Bump.{Bump}
 use Rattle.lighting.specs.declared.Bump.TheVariants.{Flat, Normal, Tangent}
-use Rattle.lighting.specs.declared.OptionalShadow.{OptionalShadow}
-use Rattle.lighting.specs.declared.OptionalShadow.TheVariants.{Unshadowed, Shadowed}
 use Rattle.lighting.specs.declared.Light.{Light}
 use Rattle.lighting.specs.declared.Lighting.{Lighting}
 use Rattle.lighting.specs.Forms.{every}
@@ -39,6 +35,7 @@ use Rattle.block.specs.ListLaws.{picks, picks_at, slot_lit, slot_unlit, count_of
 use Rattle.block.proofs.PackedLaws.{range_bump, range_shadow, range_some, range_count, range_number, flags_are}
 use Rattle.block.specs.SmallLaws.{passes}
 use Rattle.block.specs.WordLaws.{number_is, number_formed, small_formed}
+use Rattle.lighting.specs.declared.Shadow.{Shadow}
 
 -- a float's word
 
@@ -63,15 +60,15 @@ module _ (l : Light) (h : LightFits l) (n : l.number.0 ≤ 7) where
   flags_formed : flags_word l < 128
   flags_formed = omega (arith, flags_are l, flags_small l.directional l.two_sided l.geometric0 l.geometric1 (is_scaled l.distance) l.spotlight l.shadowed)
 
-  bias_formed : (d : Distance) → DistanceFits d → float_formed (distance_row d).0 ≡ true
+  bias_formed : (d : Option Distance) → DistanceFits d → float_formed (distance_row d).0 ≡ true
   unfolding distance_row
-  bias_formed Without k = small_formed 0 (omega arith)
-  bias_formed (Scaled b s) k = float_formed_lem b k.0
+  bias_formed None k = small_formed 0 (omega arith)
+  bias_formed (Some d) k = float_formed_lem d.bias k.0
 
-  scale_formed_lem : (d : Distance) → DistanceFits d → float_formed (distance_row d).1 ≡ true
+  scale_formed_lem : (d : Option Distance) → DistanceFits d → float_formed (distance_row d).1 ≡ true
   unfolding distance_row
-  scale_formed_lem Without k = small_formed 0 (omega arith)
-  scale_formed_lem (Scaled b s) k = float_formed_lem s k.1
+  scale_formed_lem None k = small_formed 0 (omega arith)
+  scale_formed_lem (Some d) k = float_formed_lem d.scale k.1
 
   light_floats : every 36 (λ j. float_formed (words (light_words l) j)) ≡ true
   unfolding every light_words distance_words vector_words
@@ -108,10 +105,10 @@ module _ (l : Light) (h : LightFits l) (n : l.number.0 ≤ 7) where
   unfolding padding_zero zeros every light_words distance_words vector_words
   light_padding = refl
 
-  without_zero : (d : Distance) (f : Bool) → f ≡ is_scaled d → (f || (eqb (distance_row d).0 0 && eqb (distance_row d).1 0)) ≡ true
+  without_zero : (d : Option Distance) (f : Bool) → f ≡ is_scaled d → (f || (eqb (distance_row d).0 0 && eqb (distance_row d).1 0)) ≡ true
   unfolding is_scaled distance_row
-  without_zero Without f e = rw e refl
-  without_zero (Scaled b s) f e = rw e refl
+  without_zero None f e = rw e refl
+  without_zero (Some d) f e = rw e refl
 
   light_without : (bit_at (words (light_words l) 32) 16 || zeros (words (light_words l)) 28 2) ≡ true
   unfolding zeros every light_words distance_words vector_words
@@ -174,10 +171,10 @@ flagged_formed u a b c d h ha hb hc hd =
     or_second (eqb n 0) (eqb (n % 16) 1 && ltb (n / 16 % 16) 4 && ltb n 4096)
     (eq-eqb (n % 16) 1 (omega arith) also lt-ltb (n / 16 % 16) 4 (omega arith) also lt-ltb n 4096 (omega arith))
 
-shadow_formed_lem : (s : OptionalShadow) → shadow_unit s ≤ 3 → shadow_formed (shadow_word s) ≡ true
+shadow_formed_lem : (s : Option Shadow) → shadow_unit s ≤ 3 → shadow_formed (shadow_word s) ≡ true
 unfolding shadow_word shadow_unit
-shadow_formed_lem Unshadowed h = zero_shadow
-shadow_formed_lem (Shadowed s) h =
+shadow_formed_lem None h = zero_shadow
+shadow_formed_lem (Some s) h =
     rw (flag_is s.invert 256, flag_is s.primary 512, flag_is s.secondary 1024, flag_is s.alpha 2048)
     (flagged_formed s.unit (bit_of s.invert) (bit_of s.primary) (bit_of s.secondary) (bit_of s.alpha) h (bit_small s.invert) (bit_small s.primary) (bit_small s.secondary) (bit_small s.alpha))
 
@@ -185,7 +182,7 @@ half_view : (a b : Bool) → (not a || b) ≡ true → (not (bit_at (flag_word a
 half_view a b h = rw ((needs_back a b).0, (needs_back a b).1) h
 
 -- what an acceptable lookup's words are
-record LookupWords (o : OptionalLookup) : Type 0 where
+record LookupWords (o : Option Lookup) : Type 0 where
   presence : ltb (lookup_row o).0 2 ≡ true
   input : ltb (lookup_row o).1 8 ≡ true
   absolute : ltb (lookup_row o).2 2 ≡ true
@@ -196,14 +193,14 @@ zero_scale : scale_formed 0 ≡ true
 unfolding scale_formed
 zero_scale = refl
 
-lookup_words_lem : (o : OptionalLookup) → optional_lookup_acceptable o ≡ true → LookupWords o
+lookup_words_lem : (o : Option Lookup) → optional_lookup_acceptable o ≡ true → LookupWords o
 unfolding optional_lookup_acceptable lookup_acceptable lookup_row
-lookup_words_lem Missing h = record { presence = refl; input = refl; absolute = refl; scale = zero_scale; missing = refl }
-lookup_words_lem (Present l) h = record {
+lookup_words_lem None h = record { presence = refl; input = refl; absolute = refl; scale = zero_scale; missing = refl }
+lookup_words_lem (Some l) h = record {
   presence = refl;
-  input = both_first (ltb l.input 8) (scale_formed (word_of l.scale)) h;
+  input = (and_parts (ltb l.input 8) (scale_formed (word_of l.scale)) h).0;
   absolute = bit_formed l.absolute;
-  scale = both_second (ltb l.input 8) (scale_formed (word_of l.scale)) h;
+  scale = (and_parts (ltb l.input 8) (scale_formed (word_of l.scale)) h).1;
   missing = refl;
 }
 
@@ -257,11 +254,11 @@ acceptable_parts l h =
       range = c 8;
     }
 
-present : (l : Lookup) → eqb (lookup_row (Present l)).0 1 ≡ true
+present : (l : Lookup) → eqb (lookup_row (Some l)).0 1 ≡ true
 unfolding lookup_row
 present l = refl
 
-present_acceptable : (l : Lookup) → lookup_acceptable l ≡ true → optional_lookup_acceptable (Present l) ≡ true
+present_acceptable : (l : Lookup) → lookup_acceptable l ≡ true → optional_lookup_acceptable (Some l) ≡ true
 unfolding optional_lookup_acceptable
 present_acceptable l h = h
 
@@ -293,8 +290,8 @@ module _ (l : Lighting) (h : LightingFits l) (f : Acceptable l) where
   bl : LookupWords l.reflect_blue
   bl = lookup_words_lem l.reflect_blue f.blue
 
-  sp : LookupWords (Present l.spotlight)
-  sp = lookup_words_lem (Present l.spotlight) (present_acceptable l.spotlight f.spotlight)
+  sp : LookupWords (Some l.spotlight)
+  sp = lookup_words_lem (Some l.spotlight) (present_acceptable l.spotlight f.spotlight)
 
   -- a word past the lit slots
   unlit_zero : (i : ℕ) → slot_at (slot_of l.light_count) ≤ i → i < 328 → words (packed l) i ≡ 0
@@ -374,12 +371,12 @@ acceptable-accepted l h e = let f = acceptable_parts l e in f.range also accepta
 
 -- an accepted lighting is acceptable
 
-optional_acceptable : (o : OptionalLookup) → ltb (lookup_row o).1 8 ≡ true → scale_formed (lookup_row o).3 ≡ true → optional_lookup_acceptable o ≡ true
+optional_acceptable : (o : Option Lookup) → ltb (lookup_row o).1 8 ≡ true → scale_formed (lookup_row o).3 ≡ true → optional_lookup_acceptable o ≡ true
 unfolding optional_lookup_acceptable lookup_acceptable lookup_row
-optional_acceptable Missing p q = refl
-optional_acceptable (Present l) p q = p also q
+optional_acceptable None p q = refl
+optional_acceptable (Some l) p q = p also q
 
-acceptable_present : (l : Lookup) → optional_lookup_acceptable (Present l) ≡ true → lookup_acceptable l ≡ true
+acceptable_present : (l : Lookup) → optional_lookup_acceptable (Some l) ≡ true → lookup_acceptable l ≡ true
 unfolding optional_lookup_acceptable
 acceptable_present l h = h
 
@@ -396,19 +393,19 @@ shaped_acceptable l r f =
     also optional_acceptable l.reflect_red (f.input 3 (omega arith)) (f.scale 3 (omega arith))
     also optional_acceptable l.reflect_green (f.input 4 (omega arith)) (f.scale 4 (omega arith))
     also optional_acceptable l.reflect_blue (f.input 5 (omega arith)) (f.scale 5 (omega arith))
-    also acceptable_present l.spotlight (optional_acceptable (Present l.spotlight) (f.input 6 (omega arith)) (f.scale 6 (omega arith)))
+    also acceptable_present l.spotlight (optional_acceptable (Some l.spotlight) (f.input 6 (omega arith)) (f.scale 6 (omega arith)))
     also needs_acceptable l.needs_half l.needs_view f.half_view
     also r
 
 pub accepted_range : (l : Lighting) → accepted l ≡ true → in_range l ≡ true
 unfolding accepted
-accepted_range l h = both_first (in_range l) (well_formed (words (packed l))) h
+accepted_range l h = (and_parts (in_range l) (well_formed (words (packed l))) h).0
 
 accepted-acceptable : (l : Lighting) → accepted l ≡ true → acceptable l ≡ true
 unfolding accepted
 accepted-acceptable l h =
-    shaped_acceptable l (both_first (in_range l) (well_formed (words (packed l))) h)
-    (formed_parts (words (packed l)) (both_second (in_range l) (well_formed (words (packed l))) h)).shape
+    shaped_acceptable l ((and_parts (in_range l) (well_formed (words (packed l))) h).0)
+    (formed_parts (words (packed l)) ((and_parts (in_range l) (well_formed (words (packed l))) h).1)).shape
 
 pub accepted_is : AcceptedIs
-accepted_is l h = alike (accepted l) (acceptable l) (accepted-acceptable l) (acceptable-accepted l h)
+accepted_is l h = both_ways (accepted l) (acceptable l) (accepted-acceptable l) (acceptable-accepted l h)

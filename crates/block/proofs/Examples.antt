@@ -6,11 +6,9 @@ use mathlib.Core.List.{List, [], ◌∷◌, ◌++◌}
 use mathlib.Core.Bool.{true, false}
 use lib.ListN.{set, replicate}
 use lib.Ieee.{Float, of_bits, to_bits}
+use Rattle.std.specs.Prelude.{None}
 use Rattle.binary32.specs.Binary32.{float_of}
-use Rattle.lighting.specs.declared.OptionalLookup.TheVariants.{Missing}
-use Rattle.lighting.specs.declared.Distance.TheVariants.{Without}
 use Rattle.lighting.specs.declared.Bump.TheVariants.{Flat}
-use Rattle.lighting.specs.declared.OptionalShadow.TheVariants.{Unshadowed}
 use Rattle.lighting.specs.declared.Light.{Light}
 use Rattle.lighting.specs.declared.Lighting.{Lighting}
 use Rattle.lighting.specs.Forms.{every}
@@ -39,7 +37,7 @@ light =
       two_sided = false;
       geometric0 = false;
       geometric1 = false;
-      distance = Without;
+      distance = None;
       spotlight = false;
       shadowed = false;
       number = record { 0 = 0 };
@@ -52,12 +50,12 @@ whole =
       light_count = 1;
       global_ambient = zero_vector;
       config = 0;
-      distribution0 = Missing;
-      distribution1 = Missing;
-      fresnel = Missing;
-      reflect_red = Missing;
-      reflect_green = Missing;
-      reflect_blue = Missing;
+      distribution0 = None;
+      distribution1 = None;
+      fresnel = None;
+      reflect_red = None;
+      reflect_green = None;
+      reflect_blue = None;
       spotlight = record { input = 0; absolute = true; scale = one };
       fresnel_primary = false;
       fresnel_secondary = false;
@@ -65,7 +63,7 @@ whole =
       needs_half = false;
       needs_view = false;
       bump = Flat;
-      shadow = Unshadowed;
+      shadow = None;
     }
 
 block : List ℕ

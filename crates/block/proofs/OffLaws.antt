@@ -1,5 +1,5 @@
 -- A block is all zero exactly when it reads as off. One that isn't is refused or reads as on. Assumes nothing.
-use Rattle.std.specs.Prelude.{ℕ, ◌≡◌, refl, Bool, true, false, cond, not, ◌||◌, T, eqb, length, replicate}
+use Rattle.std.specs.Prelude.{ℕ, ◌≡◌, refl, Bool, true, false, cond, not, ◌||◌, T, eqb, length, replicate, is_some}
 use Rattle.std.proofs.Common.{sym, subst, eq-eqb}
 use Rattle.refusals.specs.Refusals.{block_refusal}
 use Rattle.lighting.specs.Forms.{every}
@@ -18,7 +18,7 @@ zero_reads_off = rw zero_block refl
 
 -- a block that isn't all zero is refused or on
 not_off : (x : Bool) (w : ℕ → ℕ) → block_answer (cond x 0 7) (cond (eqb (cond x 0 7) 0) (on (block_lighting w)) off) ≡ block_answer 0 off → ⊥
-not_off true w e = subst (λ (r : BlockAnswer). T r.reading.on) e tt
+not_off true w e = subst (λ (r : BlockAnswer). T (is_some r.reading)) e tt
 not_off false w e = subst (λ (r : BlockAnswer). T (not (eqb r.number 0))) e tt
 
 pub off_is_zero : OffIsZero

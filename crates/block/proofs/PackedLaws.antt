@@ -1,6 +1,6 @@
 -- Reading a packed lighting gives the lighting. Each value is got back from its own words: a float from its word, a flag from its bit,
 -- a light from its slot's part. Assumes nothing.
-use Rattle.std.specs.Prelude.{ℕ, ◌+◌, ◌*◌, ◌/◌, ◌%◌, ◌<◌, ◌≤◌, ◌≡◌, refl, Bool, true, false, cond, List, [], ◌∷◌, eqb, ltb, T, length, get_or, Float}
+use Rattle.std.specs.Prelude.{ℕ, ◌+◌, ◌*◌, ◌/◌, ◌%◌, ◌<◌, ◌≤◌, ◌≡◌, refl, Bool, true, false, cond, List, [], ◌∷◌, eqb, ltb, T, length, get_or, Float, None, Option, Some}
 use Rattle.std.proofs.Common.{arith, zero-add, sym, ap, ◌∙◌}
 use Rattle.std.proofs.Math.Dec.{leb}
 use Rattle.std.specs.Float.{binary32}
@@ -11,15 +11,10 @@ use Rattle.binary32.specs.Binary32.{float_of, word_of}
 use Rattle.vectors.specs.Vectors.{at}
 use Rattle.vectors.specs.Claims.{Vector}
 use Rattle.lighting.specs.declared.Lookup.{Lookup}
-use Rattle.lighting.specs.declared.OptionalLookup.{OptionalLookup}
-use Rattle.lighting.specs.declared.OptionalLookup.TheVariants.{Missing, Present}
 use Rattle.lighting.specs.declared.Distance.{Distance}
-use Rattle.lighting.specs.declared.Distance.TheVariants.{Without, Scaled}
 use Rattle.lighting.specs.declared.Bump.{Bump}
 use Rattle.lighting.specs.declared.Bump.TheVariants.{Flat, Normal, Tangent}
 use Rattle.lighting.specs.declared.Shadow.{Shadow}
-use Rattle.lighting.specs.declared.OptionalShadow.{OptionalShadow}
-use Rattle.lighting.specs.declared.OptionalShadow.TheVariants.{Unshadowed, Shadowed}
 use Rattle.lighting.specs.declared.Light.{Light}
 use Rattle.lighting.specs.declared.Lighting.{Lighting}
 use Rattle.lighting.specs.Forms.{every}
@@ -72,17 +67,17 @@ vector_back v h = rw (float_back (at v 0) (h.fit 0), float_back (at v 1) (h.fit 
 
 -- a light
 
-distance_back : (d : Distance) (f : Bool) → DistanceFits d → f ≡ is_scaled d → cond f (Scaled (float_of (distance_row d).0) (float_of (distance_row d).1)) Without ≡ d
+distance_back : (d : Option Distance) (f : Bool) → DistanceFits d → f ≡ is_scaled d → cond f (Some (record { bias = float_of (distance_row d).0; scale = float_of (distance_row d).1 })) None ≡ d
 unfolding is_scaled distance_row
-distance_back Without f h e = rw e refl
-distance_back (Scaled b s) f h e = rw (e, float_back b h.0, float_back s h.1) refl
+distance_back None f h e = rw e refl
+distance_back (Some d) f h e = rw (e, float_back d.bias h.0, float_back d.scale h.1) refl
 
 pub flags_are : (l : Light) → flags_word l ≡ flags7 l.directional l.two_sided l.geometric0 l.geometric1 (is_scaled l.distance) l.spotlight l.shadowed
 unfolding flags_word flags7
 flags_are l = refl
 
 module _ (l : Light) where
-  light_made : (s0 s1 d a p t s : List Float) (b0 b1 b2 b3 : Bool) (f : Distance) (b5 b6 : Bool)
+  light_made : (s0 s1 d a p t s : List Float) (b0 b1 b2 b3 : Bool) (f : Option Distance) (b5 b6 : Bool)
       → s0 ≡ l.specular0
       → s1 ≡ l.specular1
       → d ≡ l.diffuse
@@ -196,14 +191,14 @@ bump_back (Normal u r) h =
     normal_is n u r (omega (arith, flag_is r 256)) (omega (arith, flag_is r 256, bit_small r)) (back (n / 256 % 2) r (omega (arith, flag_is r 256, bit_small r)))
 bump_back (Tangent u) h = tangent_is (2 + 16 * u) u (omega arith) (omega arith)
 
-shadow_is : (n : ℕ) (s : Shadow) → n % 16 ≡ 1 → n / 16 % 16 ≡ s.unit → bit_at n 256 ≡ s.invert → bit_at n 512 ≡ s.primary → bit_at n 1024 ≡ s.secondary → bit_at n 2048 ≡ s.alpha → block_shadow n ≡ Shadowed s
+shadow_is : (n : ℕ) (s : Shadow) → n % 16 ≡ 1 → n / 16 % 16 ≡ s.unit → bit_at n 256 ≡ s.invert → bit_at n 512 ≡ s.primary → bit_at n 1024 ≡ s.secondary → bit_at n 2048 ≡ s.alpha → block_shadow n ≡ Some s
 unfolding block_shadow
 shadow_is n s p q a b c d = rw (eq-eqb (n % 16) 1 p, q, a, b, c, d) refl
 
-shadow_back : (s : OptionalShadow) → shadow_unit s ≤ 3 → block_shadow (shadow_word s) ≡ s
+shadow_back : (s : Option Shadow) → shadow_unit s ≤ 3 → block_shadow (shadow_word s) ≡ s
 unfolding shadow_word shadow_unit block_shadow
-shadow_back Unshadowed h = refl
-shadow_back (Shadowed s) h =
+shadow_back None h = refl
+shadow_back (Some s) h =
     let n = 1 + 16 * s.unit + flag_word s.invert 256 + flag_word s.primary 512 + flag_word s.secondary 1024 + flag_word s.alpha 2048 in
     let a : n ≡ 1 + 16 * s.unit + 256 * bit_of s.invert + 512 * bit_of s.primary + 1024 * bit_of s.secondary + 2048 * bit_of s.alpha = omega (arith, flag_is s.invert 256, flag_is s.primary 512, flag_is s.secondary 1024, flag_is s.alpha 2048) in
     shadow_is n s
@@ -217,13 +212,13 @@ shadow_back (Shadowed s) h =
 lookup_back : (l : Lookup) → T (fits binary32 l.scale) → ◌≡◌ {A = Lookup} (record { input = l.input; absolute = eqb (bit_of l.absolute) 1; scale = float_of (word_of l.scale) }) l
 lookup_back l h = rw (bit_back l.absolute, float_back l.scale h) refl
 
-optional_back : (o : OptionalLookup) → LookupFits o → cond (eqb (lookup_row o).0 1) (Present (record { input = (lookup_row o).1; absolute = eqb (lookup_row o).2 1; scale = float_of (lookup_row o).3 })) Missing ≡ o
+optional_back : (o : Option Lookup) → LookupFits o → cond (eqb (lookup_row o).0 1) (Some (record { input = (lookup_row o).1; absolute = eqb (lookup_row o).2 1; scale = float_of (lookup_row o).3 })) None ≡ o
 unfolding lookup_row
-optional_back Missing h = refl
-optional_back (Present l) h = ap Present (lookup_back l h)
+optional_back None h = refl
+optional_back (Some l) h = ap Some (lookup_back l h)
 
 module _ (l : Lighting) where
-  lighting_made : (ls : List Light) (a : List Float) (d0 d1 f r g u : OptionalLookup) (s : Lookup) (b1 b2 b3 b4 b5 : Bool) (m : Bump) (h : OptionalShadow)
+  lighting_made : (ls : List Light) (a : List Float) (d0 d1 f r g u : Option Lookup) (s : Lookup) (b1 b2 b3 b4 b5 : Bool) (m : Bump) (h : Option Shadow)
       → ls ≡ l.lights
       → a ≡ l.global_ambient
       → d0 ≡ l.distribution0

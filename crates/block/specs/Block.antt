@@ -1,26 +1,21 @@
 -- The block of a lighting, to be laid beside `Lighting::pack` and document 01: where things stand in it, the words that are packed, which blocks are
 -- well formed, what a block reads as, and what packing and the block reader answer. Definitions only.
-use Rattle.std.specs.Prelude.{ℕ, zero, suc, ◌+◌, ◌*◌, ◌-◌, ◌/◌, ◌%◌, List, [], ◌∷◌, ◌++◌, map, Bool, ◌&&◌, ◌||◌, not, ltb, leb, eqb, get_or, replicate, length, Float, if◌then◌else◌}
+use Rattle.std.specs.Prelude.{ℕ, zero, suc, ◌+◌, ◌*◌, ◌-◌, ◌/◌, ◌%◌, List, [], ◌∷◌, ◌++◌, map, Bool, ◌&&◌, ◌||◌, not, ltb, leb, eqb, get_or, replicate, length, Float, if◌then◌else◌, Result, Ok, Err, None, Option, Some}
 use mir.Val.{bool_byte}
-use Rattle.refusals.specs.Refusals.{outcome_number, block_refusal, ◌else◌}
+use Rattle.refusals.specs.declared.Refusal.{Refusal}
+use Rattle.refusals.specs.Refusals.{number_of, block_refusal, ◌else◌}
 use Rattle.binary32.specs.Binary32.{word_of, float_of}
 use Rattle.vectors.specs.Vectors.{at}
 use Rattle.lighting.specs.declared.Slot.{Slot}
 use Rattle.lighting.specs.declared.Lookup.{Lookup}
-use Rattle.lighting.specs.declared.OptionalLookup.{OptionalLookup}
-use Rattle.lighting.specs.declared.OptionalLookup.TheVariants.{Missing, Present}
 use Rattle.lighting.specs.declared.Distance.{Distance}
-use Rattle.lighting.specs.declared.Distance.TheVariants.{Without, Scaled}
 use Rattle.lighting.specs.declared.Light.{Light}
 use Rattle.lighting.specs.declared.Bump.{Bump}
 use Rattle.lighting.specs.declared.Bump.TheVariants.{Flat, Normal, Tangent}
-use Rattle.lighting.specs.declared.OptionalShadow.{OptionalShadow}
-use Rattle.lighting.specs.declared.OptionalShadow.TheVariants.{Unshadowed, Shadowed}
 use Rattle.lighting.specs.declared.Lighting.{Lighting}
-use Rattle.lighting.specs.declared.OptionalLighting.{OptionalLighting}
 use Rattle.lighting.specs.Forms.{every}
 use Rattle.lighting.specs.Lighting.{blank_light, off, on, slot_of, light_at, is_scaled, in_range}
-use Rattle.block.specs.declared.BlockRead.{BlockRead}
+use Rattle.lighting.specs.declared.Shadow.{Shadow}
 
 -- ---- where things stand
 
@@ -55,17 +50,17 @@ bump_word Flat = 0
 bump_word (Normal unit rebuild) = 1 + 16 * unit + flag_word rebuild 256
 bump_word (Tangent unit) = 2 + 16 * unit
 
-unfoldable pub shadow_word : OptionalShadow → ℕ
-shadow_word Unshadowed = 0
-shadow_word (Shadowed shadow) =
+unfoldable pub shadow_word : Option Shadow → ℕ
+shadow_word None = 0
+shadow_word (Some shadow) =
     1 + 16 * shadow.unit + flag_word shadow.invert 256 + flag_word shadow.primary 512 + flag_word shadow.secondary 1024 + flag_word shadow.alpha 2048
 
 -- lookup.map_or([0; 4], |lookup| [1, lookup.input, lookup.absolute as u32, lookup.scale.to_bits()])
-unfoldable pub lookup_row : OptionalLookup → ℕ × ℕ × ℕ × ℕ
-lookup_row Missing = (0, 0, 0, 0)
-lookup_row (Present lookup) = (1, lookup.input, bit_of lookup.absolute, word_of lookup.scale)
+unfoldable pub lookup_row : Option Lookup → ℕ × ℕ × ℕ × ℕ
+lookup_row None = (0, 0, 0, 0)
+lookup_row (Some lookup) = (1, lookup.input, bit_of lookup.absolute, word_of lookup.scale)
 
-unfoldable pub lookup_words : OptionalLookup → List ℕ
+unfoldable pub lookup_words : Option Lookup → List ℕ
 lookup_words lookup = (lookup_row lookup).0 ∷ (lookup_row lookup).1 ∷ (lookup_row lookup).2 ∷ (lookup_row lookup).3 ∷ []
 
 -- three floats and padding: [v[0].to_bits(), v[1].to_bits(), v[2].to_bits(), 0]
@@ -87,15 +82,15 @@ head_words self =
     ++ lookup_words self.reflect_red
     ++ lookup_words self.reflect_green
     ++ lookup_words self.reflect_blue
-    ++ lookup_words (Present self.spotlight)
+    ++ lookup_words (Some self.spotlight)
     ++ vector_words self.global_ambient
 
 -- the words of light.distance.unwrap_or((0.0, 0.0))
-unfoldable pub distance_row : Distance → ℕ × ℕ
-distance_row Without = (0, 0)
-distance_row (Scaled bias scale) = (word_of bias, word_of scale)
+unfoldable pub distance_row : Option Distance → ℕ × ℕ
+distance_row None = (0, 0)
+distance_row (Some distance) = (word_of distance.bias, word_of distance.scale)
 
-unfoldable pub distance_words : Distance → List ℕ
+unfoldable pub distance_words : Option Distance → List ℕ
 distance_words distance = (distance_row distance).0 ∷ (distance_row distance).1 ∷ 0 ∷ 0 ∷ []
 
 unfoldable pub flags_word : Light → ℕ
@@ -134,8 +129,9 @@ unfoldable pub packed : Lighting → List ℕ
 packed self = head_words self ++ slots_words self 8
 
 -- the block of a reading, which a hand-over packs: "off: all zero"
-unfoldable pub packed_reading : OptionalLighting → List ℕ
-packed_reading reading = if reading.on then packed reading.lighting else replicate 328 0
+unfoldable pub packed_reading : Option Lighting → List ℕ
+packed_reading None = replicate 328 0
+packed_reading (Some lighting) = packed lighting
 
 -- ---- well-formed blocks
 
@@ -233,26 +229,26 @@ block_bump n =
     else if eqb (n % 16) 2 then Tangent (n / 16 % 16)
     else Flat
 
-unfoldable pub block_shadow : ℕ → OptionalShadow
+unfoldable pub block_shadow : ℕ → Option Shadow
 block_shadow n =
     if eqb (n % 16) 1
-    then Shadowed (record { unit = n / 16 % 16; invert = bit_at n 256; primary = bit_at n 512; secondary = bit_at n 1024; alpha = bit_at n 2048 })
-    else Unshadowed
+    then Some (record { unit = n / 16 % 16; invert = bit_at n 256; primary = bit_at n 512; secondary = bit_at n 1024; alpha = bit_at n 2048 })
+    else None
 
 -- the lookup of four words
 unfoldable pub block_lookup : (ℕ → ℕ) → Lookup
 block_lookup v = record { input = v 1; absolute = eqb (v 2) 1; scale = float_of (v 3) }
 
-unfoldable pub block_optional_lookup : (ℕ → ℕ) → OptionalLookup
-block_optional_lookup v = if eqb (v 0) 1 then Present (block_lookup v) else Missing
+unfoldable pub block_optional_lookup : (ℕ → ℕ) → Option Lookup
+block_optional_lookup v = if eqb (v 0) 1 then Some (block_lookup v) else None
 
 -- the vector of three words from i on
 unfoldable pub block_vector : (ℕ → ℕ) → ℕ → List Float
 block_vector v i = float_of (v i) ∷ float_of (v (i + 1)) ∷ float_of (v (i + 2)) ∷ []
 
 -- of a light's words
-unfoldable pub block_distance : (ℕ → ℕ) → Distance
-block_distance v = if bit_at (v 32) 16 then Scaled (float_of (v 28)) (float_of (v 29)) else Without
+unfoldable pub block_distance : (ℕ → ℕ) → Option Distance
+block_distance v = if bit_at (v 32) 16 then Some (record { bias = float_of (v 28); scale = float_of (v 29) }) else None
 
 -- the light of a slot's 36 words
 unfoldable pub block_light : (ℕ → ℕ) → Light
@@ -309,7 +305,7 @@ unfoldable pub block_lighting : (ℕ → ℕ) → Lighting
 block_lighting w = block_lighting_with w (block_lights w)
 
 -- "A block reads as off if all zero."
-unfoldable pub block_reading : (ℕ → ℕ) → OptionalLighting
+unfoldable pub block_reading : (ℕ → ℕ) → Option Lighting
 block_reading w = if all_zero w then off else on (block_lighting w)
 
 -- ---- the answers of `pack`
@@ -348,14 +344,15 @@ read_refusal b = block_refusal (length b) else words_refusal (words b)
 -- a number, and the reading beside it: off where the block is refused
 pub record BlockAnswer : Type 0 where
   pub number : ℕ
-  pub reading : OptionalLighting
+  pub reading : Option Lighting
 
-abbrev pub block_answer : ℕ → OptionalLighting → BlockAnswer
+abbrev pub block_answer : ℕ → Option Lighting → BlockAnswer
 block_answer k reading = record { number = k; reading = reading }
 
 unfoldable pub block_read : List ℕ → BlockAnswer
 block_read b = block_answer (read_refusal b) (if eqb (read_refusal b) 0 then block_reading (words b) else off)
 
 -- the number and the reading of `read_block`'s own answer
-abbrev pub answer_of : BlockRead → BlockAnswer
-answer_of r = block_answer (outcome_number r.outcome) r.reading
+abbrev pub answer_of : Result (Option Lighting) Refusal → BlockAnswer
+answer_of (Ok reading) = block_answer 0 reading
+answer_of (Err k) = block_answer (number_of k) off

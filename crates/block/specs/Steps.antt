@@ -1,10 +1,8 @@
 -- What the code computes step by step; nobody has to trust it: AcceptedLaws ties `acceptable` to Block's `accepted`, and block_reading's AnswerLaws tie
 -- the forms to what Block says of the words. Definitions only.
-use Rattle.std.specs.Prelude.{ℕ, List, Bool, true, not, ◌&&◌, ◌||◌, cond, ltb, eqb, length}
+use Rattle.std.specs.Prelude.{ℕ, List, Bool, true, not, ◌&&◌, ◌||◌, cond, ltb, eqb, length, None, Option, Some}
 use Rattle.binary32.specs.Binary32.{word_of}
 use Rattle.lighting.specs.declared.Lookup.{Lookup}
-use Rattle.lighting.specs.declared.OptionalLookup.{OptionalLookup}
-use Rattle.lighting.specs.declared.OptionalLookup.TheVariants.{Missing, Present}
 use Rattle.lighting.specs.declared.Lighting.{Lighting}
 use Rattle.lighting.specs.Forms.{every}
 use Rattle.lighting.specs.Lighting.{in_range}
@@ -17,9 +15,9 @@ use Rattle.block.specs.Block.{words, scale_formed, all_zero, is_number, well_for
 unfoldable pub lookup_acceptable : Lookup → Bool
 lookup_acceptable l = ltb l.input 8 && scale_formed (word_of l.scale)
 
-unfoldable pub optional_lookup_acceptable : OptionalLookup → Bool
-optional_lookup_acceptable Missing = true
-optional_lookup_acceptable (Present l) = lookup_acceptable l
+unfoldable pub optional_lookup_acceptable : Option Lookup → Bool
+optional_lookup_acceptable None = true
+optional_lookup_acceptable (Some l) = lookup_acceptable l
 
 unfoldable pub acceptable : Lighting → Bool
 acceptable l =

@@ -1,22 +1,19 @@
 -- The words of what well-formed words read as are those words. Each kind of word is got back by itself: a float's unless it is a NaN
 -- other than 7FC00000, a flag's if it is 0 or 1, a unit's and a kind's by division. Assumes nothing.
-use Rattle.std.specs.Prelude.{ℕ, zero, suc, ◌+◌, ◌-◌, ◌*◌, ◌/◌, ◌%◌, ◌<◌, ◌≤◌, ◌^◌, ◌⊎◌, ◌≡◌, refl, Bool, true, false, not, cond, ◌&&◌, ◌||◌, List, [], ◌∷◌, T, eqb, ltb, leb}
+use Rattle.std.specs.Cmp.{both_ways}
+use Rattle.std.specs.Prelude.{ℕ, zero, suc, ◌+◌, ◌-◌, ◌*◌, ◌/◌, ◌%◌, ◌<◌, ◌≤◌, ◌^◌, ◌⊎◌, ◌≡◌, refl, Bool, true, false, not, cond, ◌&&◌, ◌||◌, List, [], ◌∷◌, T, eqb, ltb, leb, None, Option, Some}
 use Rattle.std.proofs.Common.{arith, inl, inr, ⊎_elim, sym, ap, subst, ◌∙◌, eq-eqb, ne_eqb, le-ltb, le-leb, ltb-true, leb-true, eqb-true}
 use Rattle.std.specs.Float.{binary32}
 use Rattle.std.specs.Float.Ieee.{nan_bits, of_bits, to_bits}
 use Rattle.std.specs.Float.Ieee.Bits.{to_bits-of_bits, nan_bits_is, nan_bits_above}
-use Rattle.std.proofs.lemmas.Bool.{eqb-false}
-use Rattle.flags.specs.FlagsLaws.{both_first, both_second, alike}
+use Rattle.std.proofs.lemmas.Bool.{eqb-false, and_parts}
 use Rattle.binary32.specs.Binary32.{float_of, word_of}
-use Rattle.lighting.specs.declared.OptionalLookup.{OptionalLookup}
-use Rattle.lighting.specs.declared.OptionalLookup.TheVariants.{Missing, Present}
-use Rattle.lighting.specs.declared.Distance.TheVariants.{Without, Scaled}
 use Rattle.lighting.specs.declared.Bump.TheVariants.{Flat, Normal, Tangent}
-use Rattle.lighting.specs.declared.OptionalShadow.TheVariants.{Unshadowed, Shadowed}
 use Rattle.lighting.specs.Lighting.{is_scaled, bump_unit, shadow_unit}
 use Rattle.block.specs.Block.{flag_word, bump_word, shadow_word, lookup_row, distance_row, zeros, bit_at, bump_formed, shadow_formed, scale_formed, is_number, float_formed, block_bump, block_shadow, block_lookup, block_optional_lookup, block_distance}
 use Rattle.block.specs.TestLaws.{or_first, chain_first, chain_part, or_cases, every_one}
 use Rattle.block.specs.FlagLaws.{flag_bit, small_bit}
+use Rattle.lighting.specs.declared.Lookup.{Lookup}
 
 -- a float's word
 
@@ -108,7 +105,7 @@ exponents n h =
     (λ p. rw (eqb-true n 0x3F00_0000 p) refl) (or_cases (a || b || c || d || e || f) g h)
 
 pub scale_is : (n : ℕ) → (eqb n 0 || (eqb (n % 0x80_0000) 0 && leb 125 (n / 0x80_0000) && leb (n / 0x80_0000) 130)) ≡ scale_formed n
-scale_is n = alike _ _ from (exponents n)
+scale_is n = both_ways _ _ from (exponents n)
   where
     power : (eqb (n % 0x80_0000) 0 && leb 125 (n / 0x80_0000) && leb (n / 0x80_0000) 130) ≡ true → scale_formed n ≡ true
     power h =
@@ -144,7 +141,7 @@ bump_cases : (n : ℕ) → bump_formed n ≡ true
 unfolding bump_formed
 bump_cases n h =
     ⊎_elim (λ q. ⊎_elim (λ p. inl (eqb-true n 0 p)) (λ p. inr (inl (of_unit n 512 p))) (or_cases (eqb n 0) (eqb (n % 16) 1 && ltb (n / 16 % 16) 4 && ltb n 512) q))
-    (λ p. inr (inr (eqb-true (n % 16) 2 (both_first (eqb (n % 16) 2) (ltb n 64) p), ltb-true n 64 (both_second (eqb (n % 16) 2) (ltb n 64) p))))
+    (λ p. inr (inr (eqb-true (n % 16) 2 ((and_parts (eqb (n % 16) 2) (ltb n 64) p).0), ltb-true n 64 ((and_parts (eqb (n % 16) 2) (ltb n 64) p).1))))
     (or_cases (eqb n 0 || (eqb (n % 16) 1 && ltb (n / 16 % 16) 4 && ltb n 512)) (eqb (n % 16) 2 && ltb n 64) h)
 
 pub bump_small : (n : ℕ) → bump_formed n ≡ true → n < 512
@@ -227,7 +224,7 @@ shadow_unit_small n h = go (eqb (n % 16) 1)
     small : n / 16 % 16 ≤ 3
     small = ⊎_elim (λ e. omega arith) (λ p. omega (arith, p.1)) (shadow_cases n h)
 
-    go : (x : Bool) → shadow_unit (cond x (Shadowed (record { unit = n / 16 % 16; invert = bit_at n 256; primary = bit_at n 512; secondary = bit_at n 1024; alpha = bit_at n 2048 })) Unshadowed) ≤ 3
+    go : (x : Bool) → shadow_unit (cond x (Some (record { unit = n / 16 % 16; invert = bit_at n 256; primary = bit_at n 512; secondary = bit_at n 1024; alpha = bit_at n 2048 })) None) ≤ 3
     go true = small
     go false = omega arith
 
@@ -243,7 +240,7 @@ pub zero_at : (v : ℕ → ℕ) (i n k : ℕ) → zeros v i n ≡ true → k < n
 unfolding zeros
 zero_at v i n k h m = sym (eqb-true (v (i + k)) 0 (every_one n (λ j. eqb (v (i + j)) 0) k h m))
 
-pub record LookupBack (v : ℕ → ℕ) (o : OptionalLookup) : Type 0 where
+pub record LookupBack (v : ℕ → ℕ) (o : Option Lookup) : Type 0 where
   pub presence : (lookup_row o).0 ≡ v 0
   pub input : (lookup_row o).1 ≡ v 1
   pub absolute : (lookup_row o).2 ≡ v 2
@@ -253,7 +250,7 @@ pub lookup_words_back : (v : ℕ → ℕ) → LookupFormed v → LookupBack v (b
 unfolding block_optional_lookup block_lookup lookup_row
 lookup_words_back v f = go (eqb (v 0) 1) refl f.missing
   where
-    go : (b : Bool) → eqb (v 0) 1 ≡ b → (b || zeros v 1 3) ≡ true → LookupBack v (cond b (Present (record { input = v 1; absolute = eqb (v 2) 1; scale = float_of (v 3) })) Missing)
+    go : (b : Bool) → eqb (v 0) 1 ≡ b → (b || zeros v 1 3) ≡ true → LookupBack v (cond b (Some (record { input = v 1; absolute = eqb (v 2) 1; scale = float_of (v 3) })) None)
     go true e m = record {
       presence = sym (eqb-true (v 0) 1 e);
       input = refl;
@@ -277,6 +274,6 @@ unfolding block_distance distance_row is_scaled
 distance_words_back v p q f g h = go (bit_at (v 32) 16) h
   where
     go : (b : Bool) → (b || zeros v 28 2) ≡ true
-        → ((distance_row (cond b (Scaled (float_of (v 28)) (float_of (v 29))) Without)).0 ≡ v 28) × ((distance_row (cond b (Scaled (float_of (v 28)) (float_of (v 29))) Without)).1 ≡ v 29) × (is_scaled (cond b (Scaled (float_of (v 28)) (float_of (v 29))) Without) ≡ b)
+        → ((distance_row (cond b (Some (record { bias = float_of (v 28); scale = float_of (v 29) })) None)).0 ≡ v 28) × ((distance_row (cond b (Some (record { bias = float_of (v 28); scale = float_of (v 29) })) None)).1 ≡ v 29) × (is_scaled (cond b (Some (record { bias = float_of (v 28); scale = float_of (v 29) })) None) ≡ b)
     go true m = (word_back (v 28) p f, word_back (v 29) q g, refl)
     go false m = (zero_at v 28 2 0 m (omega arith), zero_at v 28 2 1 m (omega arith), refl)

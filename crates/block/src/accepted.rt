@@ -8,7 +8,7 @@ ghost use Rattle.lighting.specs.Claims.{LightFits, DistanceFits, LookupFits, Lig
 ghost use Rattle.block.specs.Steps.{lookup_acceptable, optional_lookup_acceptable};
 ghost use Rattle.vectors.specs.Claims.{Vector};
 
-use lighting::{Distance, Light, Lighting, Lookup, OptionalLookup, Slot, bump_unit, shadow_unit};
+use lighting::{Distance, Light, Lighting, Lookup, Slot, bump_unit, shadow_unit};
 
 // Whether no lit light's number is above 7.
 fn numbers_fit(l: Lighting) -> bool
@@ -44,12 +44,12 @@ fn lookup_acceptable(l: Lookup) -> bool
     (l.input < 8) & crate::scale_formed(binary32::word_of(l.scale))
 }
 
-fn optional_lookup_acceptable(lookup: OptionalLookup) -> bool
+fn optional_lookup_acceptable(lookup: Option<Lookup>) -> bool
     ensures { result ≡ optional_lookup_acceptable lookup }
 {
     match lookup {
-        OptionalLookup::Missing => true,
-        OptionalLookup::Present(l) => lookup_acceptable(l),
+        None => true,
+        Some(l) => lookup_acceptable(l),
     }
 }
 
@@ -67,24 +67,24 @@ fn vector_fits(v: [f32; 3])
     float_fits(v[2]);
 }
 
-fn distance_fits(distance: Distance)
+fn distance_fits(distance: Option<Distance>)
     ensures { DistanceFits distance }
 {
     match distance {
-        Distance::Without => {}
-        Distance::Scaled(bias, scale) => {
-            float_fits(bias);
-            float_fits(scale);
+        None => {}
+        Some(distance) => {
+            float_fits(distance.bias);
+            float_fits(distance.scale);
         }
     }
 }
 
-fn lookup_fits(lookup: OptionalLookup)
+fn lookup_fits(lookup: Option<Lookup>)
     ensures { LookupFits lookup }
 {
     match lookup {
-        OptionalLookup::Missing => {}
-        OptionalLookup::Present(l) => float_fits(l.scale),
+        None => {}
+        Some(l) => float_fits(l.scale),
     }
 }
 

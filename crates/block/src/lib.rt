@@ -7,8 +7,7 @@ pub mod accepted;
 ghost use Rattle.std.specs.Prelude.{◌≡◌, ◌<◌};
 ghost use Rattle.block.specs.Block.{slot_at, scale_formed};
 
-use lighting::{OptionalLighting, Slot};
-use refusals::Outcome;
+use lighting::Slot;
 
 // What a block's words are. In a NanFree block no word is a NaN's pattern.
 #[derive(Clone, Copy)]
@@ -17,13 +16,6 @@ pub enum BlockForm {
     NotWellFormed,
     NanFree,
     WithNan,
-}
-
-// What reading a block answers: a refusal, beside which the reading is off, or Done and the reading.
-#[derive(Clone, Copy)]
-pub struct BlockRead {
-    pub outcome: Outcome,
-    pub reading: OptionalLighting,
 }
 
 // Where a slot's words begin.

@@ -9,13 +9,11 @@ use lib.Dec.{leb, ltb, T}
 use lib.ListN.{length, get_or-eq_default}
 use lib.Ieee.{Float, nan, binary32, fits}
 use lib.Ieee.Fits.{nan-fits}
+use Rattle.std.specs.Prelude.{None, Option, Some}
 use Rattle.vectors.specs.Vectors.{at}
 use Rattle.vectors.specs.Claims.{Vector}
 use Rattle.lighting.specs.declared.Lookup.{Lookup}
-use Rattle.lighting.specs.declared.OptionalLookup.{OptionalLookup}
-use Rattle.lighting.specs.declared.OptionalLookup.TheVariants.{Missing, Present}
 use Rattle.lighting.specs.declared.Distance.{Distance}
-use Rattle.lighting.specs.declared.Distance.TheVariants.{Without, Scaled}
 use Rattle.lighting.specs.declared.Lighting.{Lighting}
 use Rattle.lighting.specs.Lighting.{bump_unit, shadow_unit, numbers_fit, in_range}
 use Rattle.lighting.specs.Claims.{DistanceFits, LookupFits, LightingFits}
@@ -32,17 +30,17 @@ vector_made v n h0 h1 h2 = record { long = n; fit = each }
     each (suc (suc zero)) = h2
     each (suc (suc (suc i))) = subst (λ (x : Float). T (fits binary32 x)) (sym (get_or-eq_default v nan {n = suc (suc (suc i))} (omega arith))) (nan-fits binary32)
 
-pub without_fits : (d : Distance) → d ≡ Without → DistanceFits d
-without_fits d e = subst (λ (x : Distance). DistanceFits x) (sym e) tt
+pub without_fits : (d : Option Distance) → d ≡ None → DistanceFits d
+without_fits d e = subst (λ (x : Option Distance). DistanceFits x) (sym e) tt
 
-pub scaled_fit : (d : Distance) (b s : Float) → d ≡ Scaled b s → T (fits binary32 b) → T (fits binary32 s) → DistanceFits d
-scaled_fit d b s e h k = subst (λ (x : Distance). DistanceFits x) (sym e) (h, k)
+pub scaled_fit : (d : Option Distance) (s : Distance) → d ≡ Some s → T (fits binary32 s.bias) → T (fits binary32 s.scale) → DistanceFits d
+scaled_fit d s e h k = subst (λ (x : Option Distance). DistanceFits x) (sym e) (h, k)
 
-pub missing_fits : (o : OptionalLookup) → o ≡ Missing → LookupFits o
-missing_fits o e = subst (λ (x : OptionalLookup). LookupFits x) (sym e) tt
+pub missing_fits : (o : Option Lookup) → o ≡ None → LookupFits o
+missing_fits o e = subst (λ (x : Option Lookup). LookupFits x) (sym e) tt
 
-pub present_fits : (o : OptionalLookup) (l : Lookup) → o ≡ Present l → T (fits binary32 l.scale) → LookupFits o
-present_fits o l e h = subst (λ (x : OptionalLookup). LookupFits x) (sym e) h
+pub present_fits : (o : Option Lookup) (l : Lookup) → o ≡ Some l → T (fits binary32 l.scale) → LookupFits o
+present_fits o l e h = subst (λ (x : Option Lookup). LookupFits x) (sym e) h
 
 pub count_fails : (l : Lighting) → leb l.light_count 8 ≡ false → false ≡ in_range l
 unfolding in_range

@@ -2,8 +2,8 @@
 use Rattle.block.proofs.accepted.Cases.{without_fits, scaled_fit}
 use Rattle.block.proofs.accepted.distance_fits.Goals as goal
 
-pub returns-in-Without : goal.returns-in-Without
-returns-in-Without c = without_fits _ c.in-Without.is
+pub returns-in-None : goal.returns-in-None
+returns-in-None c = without_fits _ c.in-None.is
 
-pub returns-in-Scaled : goal.returns-in-Scaled
-returns-in-Scaled c = scaled_fit _ _ _ c.in-Scaled.is c.float_fits.ensures c.float_fits-in-Scaled.ensures
+pub returns-in-Some : goal.returns-in-Some
+returns-in-Some c = scaled_fit _ _ c.in-Some.is c.float_fits.ensures c.float_fits-in-Some.ensures

@@ -2,8 +2,8 @@
 use Rattle.block.proofs.accepted.Cases.{missing_fits, present_fits}
 use Rattle.block.proofs.accepted.lookup_fits.Goals as goal
 
-pub returns-in-Missing : goal.returns-in-Missing
-returns-in-Missing c = missing_fits _ c.in-Missing.is
+pub returns-in-None : goal.returns-in-None
+returns-in-None c = missing_fits _ c.in-None.is
 
-pub returns-in-Present : goal.returns-in-Present
-returns-in-Present c = present_fits _ _ c.in-Present.is c.float_fits.ensures
+pub returns-in-Some : goal.returns-in-Some
+returns-in-Some c = present_fits _ _ c.in-Some.is c.float_fits.ensures

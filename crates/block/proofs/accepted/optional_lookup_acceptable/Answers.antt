@@ -3,10 +3,10 @@ use mathlib.Core.Path.{refl}
 use Rattle.block.specs.Steps.{optional_lookup_acceptable}
 use Rattle.block.proofs.accepted.optional_lookup_acceptable.Goals as goal
 
-pub returns-in-Missing : goal.returns-in-Missing
+pub returns-in-None : goal.returns-in-None
 unfolding optional_lookup_acceptable
-returns-in-Missing c = rw c.in-Missing.is refl
+returns-in-None c = rw c.in-None.is refl
 
-pub returns-in-Present : goal.returns-in-Present
+pub returns-in-Some : goal.returns-in-Some
 unfolding optional_lookup_acceptable
-returns-in-Present c = rw c.in-Present.is c.lookup_acceptable.ensures
+returns-in-Some c = rw c.in-Some.is c.lookup_acceptable.ensures
