@@ -1,7 +1,6 @@
 -- What the code computes step by step; nobody has to trust it: the contract of `pack` ties it to Block's `packs`. Definitions only.
-use Rattle.std.specs.Prelude.{ℕ, List, ◌++◌}
+use Rattle.std.specs.Prelude.{ℕ, List, ◌++◌, Some}
 use Rattle.std.proofs.lemmas.List.Edits.{sets}
-use Rattle.lighting.specs.declared.OptionalLookup.TheVariants.{Present}
 use Rattle.lighting.specs.declared.Light.{Light}
 use Rattle.lighting.specs.declared.Lighting.{Lighting}
 use Rattle.block.specs.Block.{lookup_words, vector_words}
@@ -19,7 +18,7 @@ lookups_words l =
     ++ lookup_words l.reflect_red
     ++ lookup_words l.reflect_green
     ++ lookup_words l.reflect_blue
-    ++ lookup_words (Present l.spotlight)
+    ++ lookup_words (Some l.spotlight)
 
 -- the first four vectors of a light
 unfoldable pub colours_words : Light → List ℕ

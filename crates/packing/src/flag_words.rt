@@ -3,7 +3,7 @@ ghost use Rattle.std.specs.Prelude.{◌≡◌, ◌*◌, ◌≤◌};
 ghost use Rattle.block.specs.Block.{flag_word, bump_word, shadow_word, flags_word};
 ghost use Rattle.lighting.specs.Lighting.{bump_unit, shadow_unit};
 
-use lighting::{Bump, Light, OptionalShadow};
+use lighting::{Bump, Light, Shadow};
 
 // `weight` where the flag is set.
 pub(crate) fn flag(set: bool, weight: u32) -> u32
@@ -31,13 +31,13 @@ pub(crate) fn bump_word(bump: Bump) -> u32
     }
 }
 
-pub(crate) fn shadow_word(shadow: OptionalShadow) -> u32
+pub(crate) fn shadow_word(shadow: Option<Shadow>) -> u32
     requires { shadow_unit shadow ≤ 3 }
     ensures { result ≡ shadow_word shadow }
 {
     match shadow {
-        OptionalShadow::Unshadowed => 0,
-        OptionalShadow::Shadowed(s) => {
+        None => 0,
+        Some(s) => {
             1 + unit_bits(s.unit)
                 + flag(s.invert, 256)
                 + flag(s.primary, 512)
@@ -50,12 +50,11 @@ pub(crate) fn shadow_word(shadow: OptionalShadow) -> u32
 pub(crate) fn flags_word(l: Light) -> u32
     ensures { result ≡ flags_word l }
 {
-    let distance = l.distance;
     flag(l.directional, 1)
         + flag(l.two_sided, 2)
         + flag(l.geometric0, 4)
         + flag(l.geometric1, 8)
-        + flag(lighting::is_scaled(distance), 16)
+        + flag(lighting::is_scaled(l.distance), 16)
         + flag(l.spotlight, 32)
         + flag(l.shadowed, 64)
 }

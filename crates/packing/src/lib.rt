@@ -18,7 +18,7 @@ use crate::light_words::put_light;
 use crate::rows::put_zeros;
 use block::slot_at;
 use lighting::{Light, Lighting, Slot};
-use refusals::{Outcome, Refusal};
+use refusals::Refusal;
 
 // Each slot's part by itself: its light's words, or zeros where it isn't lit.
 fn put_slot(block: &mut [u32], slot: Slot, lit: bool, light: Light)
@@ -50,15 +50,15 @@ pub fn fill(block: &mut [u32], l: Lighting)
 }
 
 // The block of a lighting, or a refusal and the block as it was.
-pub fn pack(lighting: Lighting, block: &mut [u32]) -> Outcome
+pub fn pack(lighting: Lighting, block: &mut [u32]) -> Result<(), Refusal>
     ensures { packing (outcome_number result) block.new ≡ packs lighting block.old }
 {
     if block.len() != 328 {
-        return Outcome::Refused(Refusal::WrongBlock);
+        return Err(Refusal::WrongBlock);
     }
     if block::accepted::acceptable(lighting) {
         fill(block, lighting);
-        return Outcome::Done;
+        return Ok(());
     }
-    Outcome::Refused(Refusal::NotWellFormed)
+    Err(Refusal::NotWellFormed)
 }

@@ -11,40 +11,33 @@ fn put_colours(block: &mut [u32], at: usize, l: Light)
     requires { at + 16 ≤ length block.old }
     ensures { block.new ≡ put_words block.old at (colours_words l) }
 {
-    let specular0 = l.specular0;
-    let specular1 = l.specular1;
-    let diffuse = l.diffuse;
-    let ambient = l.ambient;
-    put_vector(block, at, specular0);
-    put_vector(block, at + 4, specular1);
-    put_vector(block, at + 8, diffuse);
-    put_vector(block, at + 12, ambient);
+    put_vector(block, at, l.specular0);
+    put_vector(block, at + 4, l.specular1);
+    put_vector(block, at + 8, l.diffuse);
+    put_vector(block, at + 12, l.ambient);
 }
 
 fn put_places(block: &mut [u32], at: usize, l: Light)
     requires { at + 12 ≤ length block.old }
     ensures { block.new ≡ put_words block.old at (places_words l) }
 {
-    let position = l.position;
-    let direction = l.direction;
-    let spot = l.spot;
-    put_vector(block, at, position);
-    put_vector(block, at + 4, direction);
-    put_vector(block, at + 8, spot);
+    put_vector(block, at, l.position);
+    put_vector(block, at + 4, l.direction);
+    put_vector(block, at + 8, l.spot);
 }
 
 // Bias, scale and padding.
-fn put_distance(block: &mut [u32], at: usize, distance: Distance)
+fn put_distance(block: &mut [u32], at: usize, distance: Option<Distance>)
     requires { at + 4 ≤ length block.old }
     ensures { block.new ≡ put_words block.old at (distance_words distance) }
 {
     match distance {
-        Distance::Without => put_row(block, at, 0, 0, 0, 0),
-        Distance::Scaled(bias, scale) => put_row(
+        None => put_row(block, at, 0, 0, 0, 0),
+        Some(distance) => put_row(
             block,
             at,
-            binary32::word_of(bias),
-            binary32::word_of(scale),
+            binary32::word_of(distance.bias),
+            binary32::word_of(distance.scale),
             0,
             0,
         ),
@@ -56,10 +49,8 @@ pub(crate) fn put_light(block: &mut [u32], at: usize, l: Light)
     requires { (at + 36 ≤ length block.old) × (l.number.0 ≤ 7) }
     ensures { block.new ≡ put_words block.old at (light_words l) }
 {
-    let distance = l.distance;
-    let number = l.number;
     put_colours(block, at, l);
     put_places(block, at + 16, l);
-    put_distance(block, at + 28, distance);
-    put_row(block, at + 32, flags_word(l), number.0 as u32, 0, 0);
+    put_distance(block, at + 28, l.distance);
+    put_row(block, at + 32, flags_word(l), l.number.0 as u32, 0, 0);
 }

@@ -3,7 +3,7 @@ ghost use Rattle.std.specs.Prelude.{◌≡◌, [], ◌∷◌, ◌+◌, ◌≤◌
 ghost use Rattle.packing.specs.Steps.{put_words};
 ghost use Rattle.block.specs.Block.{lookup_words, vector_words};
 
-use lighting::OptionalLookup;
+use lighting::Lookup;
 
 // Four words from `at` on: the block is rows of four.
 pub(crate) fn put_row(block: &mut [u32], at: usize, a: u32, b: u32, c: u32, d: u32)
@@ -17,13 +17,13 @@ pub(crate) fn put_row(block: &mut [u32], at: usize, a: u32, b: u32, c: u32, d: u
 }
 
 // Presence, input, absolute, scale.
-pub(crate) fn put_lookup(block: &mut [u32], at: usize, lookup: OptionalLookup)
+pub(crate) fn put_lookup(block: &mut [u32], at: usize, lookup: Option<Lookup>)
     requires { at + 4 ≤ length block.old }
     ensures { block.new ≡ put_words block.old at (lookup_words lookup) }
 {
     match lookup {
-        OptionalLookup::Missing => put_row(block, at, 0, 0, 0, 0),
-        OptionalLookup::Present(l) => put_row(
+        None => put_row(block, at, 0, 0, 0, 0),
+        Some(l) => put_row(
             block,
             at,
             1,

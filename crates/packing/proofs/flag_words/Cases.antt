@@ -2,11 +2,10 @@
 use Prim.Native.Nat.{ℕ, ◌+◌, ◌*◌, ◌≤◌}
 use mathlib.Core.Path.{◌≡◌, refl}
 use mathlib.Core.Bool.{Bool}
+use Rattle.std.specs.Prelude.{None, Option, Some}
 use Rattle.lighting.specs.declared.Bump.{Bump}
 use Rattle.lighting.specs.declared.Bump.TheVariants.{Flat, Normal, Tangent}
 use Rattle.lighting.specs.declared.Shadow.{Shadow}
-use Rattle.lighting.specs.declared.OptionalShadow.{OptionalShadow}
-use Rattle.lighting.specs.declared.OptionalShadow.TheVariants.{Unshadowed, Shadowed}
 use Rattle.lighting.specs.declared.Light.{Light}
 use Rattle.lighting.specs.Lighting.{is_scaled, bump_unit, shadow_unit}
 use Rattle.block.specs.Block.{flag_word, bump_word, shadow_word, flags_word}
@@ -31,16 +30,16 @@ pub tangent_word : (u x : ℕ) → x ≡ 16 * u → 2 + x ≡ bump_word (Tangent
 unfolding bump_word
 tangent_word u x p = rw p refl
 
-pub shadow_unit_lem : (o : OptionalShadow) (s : Shadow) → o ≡ Shadowed s → shadow_unit o ≤ 3 → s.unit ≤ 3
+pub shadow_unit_lem : (o : Option Shadow) (s : Shadow) → o ≡ Some s → shadow_unit o ≤ 3 → s.unit ≤ 3
 unfolding shadow_unit
 shadow_unit_lem o s e h = rw e at h
 
-pub unshadowed_word : 0 ≡ shadow_word Unshadowed
+pub unshadowed_word : 0 ≡ shadow_word None
 unfolding shadow_word
 unshadowed_word = refl
 
 pub shadowed_word : (s : Shadow) (x a b c d : ℕ) → x ≡ 16 * s.unit → a ≡ flag_word s.invert 256 → b ≡ flag_word s.primary 512 → c ≡ flag_word s.secondary 1024 → d ≡ flag_word s.alpha 2048
-    → 1 + x + a + b + c + d ≡ shadow_word (Shadowed s)
+    → 1 + x + a + b + c + d ≡ shadow_word (Some s)
 unfolding shadow_word
 shadowed_word s x a b c d p q r t u = rw (p, q, r, t, u) refl
 

@@ -3,18 +3,18 @@ use Prim.Native.Nat.{ℕ}
 use mathlib.Core.Path.{◌≡◌, refl}
 use mathlib.Core.List.{List, [], ◌∷◌}
 use lib.Ieee.{Float}
+use Rattle.std.specs.Prelude.{None, Some}
 use Rattle.binary32.specs.Binary32.{word_of}
 use Rattle.vectors.specs.Vectors.{at}
 use Rattle.lighting.specs.declared.Lookup.{Lookup}
-use Rattle.lighting.specs.declared.OptionalLookup.TheVariants.{Missing, Present}
 use Rattle.block.specs.Block.{bit_of, lookup_row, lookup_words, vector_words}
 use Rattle.packing.specs.Steps.{put_words}
 
-pub missing_words : lookup_words Missing ≡ 0 ∷ 0 ∷ 0 ∷ 0 ∷ []
+pub missing_words : lookup_words None ≡ 0 ∷ 0 ∷ 0 ∷ 0 ∷ []
 unfolding lookup_words lookup_row
 missing_words = refl
 
-pub present_words : (l : Lookup) → lookup_words (Present l) ≡ 1 ∷ l.input ∷ bit_of l.absolute ∷ word_of l.scale ∷ []
+pub present_words : (l : Lookup) → lookup_words (Some l) ≡ 1 ∷ l.input ∷ bit_of l.absolute ∷ word_of l.scale ∷ []
 unfolding lookup_words lookup_row
 present_words l = refl
 

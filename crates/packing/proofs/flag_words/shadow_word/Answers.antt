@@ -4,10 +4,10 @@ use Rattle.packing.proofs.flag_words.Cases.{shadow_unit_lem, unshadowed_word, sh
 use Rattle.packing.proofs.flag_words.shadow_word.Goals as goal
 
 pub unit_bits-requires : goal.unit_bits-requires
-unit_bits-requires c = shadow_unit_lem _ _ c.in-Shadowed.is c.requires
+unit_bits-requires c = shadow_unit_lem _ _ c.in-Some.is c.requires
 
-pub returns-in-Unshadowed : goal.returns-in-Unshadowed
-returns-in-Unshadowed c = rw c.in-Unshadowed.is unshadowed_word
+pub returns-in-None : goal.returns-in-None
+returns-in-None c = rw c.in-None.is unshadowed_word
 
-pub returns-in-Shadowed : goal.returns-in-Shadowed
-returns-in-Shadowed c = rw c.in-Shadowed.is (shadowed_word _ _ _ _ _ _ c.unit_bits.ensures.0 c.flag.ensures.0 c.flag-in-Shadowed.ensures.0 c.flag-in-Shadowed-2.ensures.0 c.flag-in-Shadowed-3.ensures.0)
+pub returns-in-Some : goal.returns-in-Some
+returns-in-Some c = rw c.in-Some.is (shadowed_word _ _ _ _ _ _ c.unit_bits.ensures.0 c.flag.ensures.0 c.flag-in-Some.ensures.0 c.flag-in-Some-2.ensures.0 c.flag-in-Some-3.ensures.0)

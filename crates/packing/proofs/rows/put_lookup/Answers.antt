@@ -2,8 +2,8 @@
 use Rattle.packing.proofs.rows.Cases.{missing_words, present_words}
 use Rattle.packing.proofs.rows.put_lookup.Goals as goal
 
-pub returns-in-Missing : goal.returns-in-Missing
-returns-in-Missing c = rw (c.in-Missing.is, missing_words) c.put_row.ensures
+pub returns-in-None : goal.returns-in-None
+returns-in-None c = rw (c.in-None.is, missing_words) c.put_row.ensures
 
-pub returns-in-Present : goal.returns-in-Present
-returns-in-Present c = rw (c.in-Present.is, present_words, ← c.word_of.ensures) c.put_row-in-Present.ensures
+pub returns-in-Some : goal.returns-in-Some
+returns-in-Some c = rw (c.in-Some.is, present_words, ← c.word_of.ensures) c.put_row-in-Some.ensures
