@@ -1,8 +1,9 @@
 -- A text that is written piece by piece is written as a whole, and from the start of a buffer it becomes the buffer's front. Both follow
 -- the text's elements. Assumes nothing.
-use Rattle.std.specs.Prelude.{ℕ, ◌+◌, ◌≤◌, ◌<◌, ◌≡◌, refl, List, [], ◌∷◌, ◌++◌, length, get_or, set, drop, take}
-use Rattle.std.proofs.Common.{arith, add-one, add-zero, zero-add, sym, ap, ◌∙◌, take_at}
+use Rattle.std.specs.Prelude.{ℕ, ◌+◌, ◌-◌, ◌≤◌, ◌<◌, ◌≡◌, refl, List, [], ◌∷◌, ◌++◌, length, get_or, set, drop, take}
+use Rattle.std.proofs.Common.{arith, add-one, add-zero, zero-add, sym, ap, ◌∙◌, take_at, append_assoc}
 use Rattle.std.proofs.lemmas.List.Edits.{sets, sets-eq}
+use borrow.Rule.Slice.PartMut.{put_mid, Post-is}
 use Rattle.printing.specs.Steps.{Out, out, puts}
 use Rattle.sources.specs.PieceLaws.{drop_one}
 
@@ -45,6 +46,15 @@ module _ (l l' text : List ℕ) (r : ℕ) (e : out l' r ≡ puts (out l 0) text)
 
   pub put_front : length text ≤ length l → take r l' ≡ text
   put_front h = rw (put_list h) (take_at text (drop (length text) l) r (sym put_size))
+
+-- a text copied as a whole
+pub puts_copied : (l text : List ℕ) (at : ℕ) → at + length text ≤ length l → out (put_mid at (at + length text - at) l text) (at + length text) ≡ puts (out l at) text
+puts_copied l text at h =
+    let rest = Post-is at (at + length text) l (omega arith) in
+    ap (λ (r : List ℕ). out (take at l ++ (text ++ r)) (at + length text)) rest
+    ∙ ap (λ (m : List ℕ). out m (at + length text)) (sym (append_assoc (take at l) text (drop (at + length text) l)))
+    ∙ ap (λ (m : List ℕ). out m (at + length text)) (sym (puts-list (out l at) text ∙ sets-eq text l at h))
+    ∙ ap (out (puts (out l at) text).list) (sym (puts-at (out l at) text))
 
 -- a few elements stored in a row
 pub puts_two : (l : List ℕ) (i a b : ℕ) → out (set (set l i a) (i + 1) b) (i + 2) ≡ puts (out l i) (a ∷ b ∷ [])

@@ -1,4 +1,5 @@
-// Numbers in decimal, written into a buffer from a place on.
+// Numbers in decimal, written into a buffer from a place on. By hand, since no number has more than three digits: `itoa` writes one of any size into a buffer of its own, of 40 bytes,
+// from which it would be copied.
 ghost use Rattle.std.specs.Prelude.{◌≡◌, ◌+◌, ◌≤◌, ◌<◌, length};
 ghost use Rattle.printing.specs.Steps.{out as out_at, puts};
 ghost use Rattle.printing.specs.Printing.{digit_byte, decimal};

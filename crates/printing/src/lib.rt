@@ -1,5 +1,6 @@
 // The text that a capture prints, written into a buffer from a place on: a fragment's line, `off`, `refused N`. Each function answers the
 // place after what it wrote, and no line is longer than 32 bytes. `decimals` writes a number, and is read first; the lines stand here.
+// A buffer and a place beside it, since C lends the output and there is no heap.
 #![tactic(auto)]
 
 mod decimals;
@@ -25,12 +26,10 @@ pub fn put_line(out: &mut [u8], at: usize, k: [u32; 8]) -> usize
     ensures { (out_at out.new result ≡ puts (out_at out.old at) (line k)) × (result ≤ at + 32) }
 {
     let mut next = at;
-    let mut i = 0;
-    while i < 8 {
-        let end = put_decimal(out, next, k[i]);
+    for (i, number) in k.iter().enumerate() {
+        let end = put_decimal(out, next, *number);
         out[end] = gap_after(i);
         next = end + 1;
-        i += 1;
     }
     next
 }
@@ -41,11 +40,7 @@ pub fn put_off(out: &mut [u8], at: usize) -> usize
     requires { at + 4 ≤ length out.old }
     ensures { (out_at out.new result ≡ puts (out_at out.old at) off_line) × (result ≤ at + 4) }
 {
-    out[at] = b'o';
-    out[at + 1] = b'f';
-    out[at + 2] = b'f';
-    out[at + 3] = b'\n';
-    at + 4
+    put_text(out, at, b"off\n")
 }
 
 // A text as it is.
@@ -53,12 +48,9 @@ fn put_text(out: &mut [u8], at: usize, text: &[u8]) -> usize
     requires { at + length text.now ≤ length out.old }
     ensures { (out_at out.new result ≡ puts (out_at out.old at) text.now) × (result ≡ at + length text.now) }
 {
-    let mut i = 0;
-    while i < text.len() {
-        out[at + i] = text[i];
-        i += 1;
-    }
-    at + i
+    let end = at + text.len();
+    out[at..end].copy_from_slice(text);
+    end
 }
 
 // The line of a refusal.
