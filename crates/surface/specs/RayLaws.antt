@@ -1,6 +1,6 @@
 -- −view − position is the opposite of position + view in every bit but a zero's sign, since rounding takes no notice of the sign, and a square has lost it.
 -- So the ray's unit vector and its norm share one root. Assumes nothing.
-use Rattle.std.specs.Prelude.{ℕ, zero, suc, ◌+◌, ◌-◌, ◌*◌, ◌^◌, ◌≡◌, refl, Bool, true, false, not, ◌&&◌, cond, ◌||◌, List, ltb, Float}
+use Rattle.std.specs.Prelude.{ℕ, zero, suc, ◌+◌, ◌-◌, ◌*◌, ◌^◌, ◌≡◌, refl, Bool, true, false, not, ◌&&◌, cond, ◌||◌, List, ltb, Float, Some}
 use Rattle.std.proofs.Common.{arith, sym, ap, ◌∙◌, ltb-true, ltb-false}
 use Rattle.std.specs.Bool.{beq}
 use Rattle.std.specs.Float.{nan, inf, fin, Format, binary32}
@@ -9,7 +9,7 @@ use Rattle.root.specs.Root.{root_of}
 use Rattle.vectors.specs.Vectors.{at, plus_of, dot_of}
 use Rattle.lighting.specs.Lighting.{is_scaled}
 use Rattle.lighting.specs.declared.Light.{Light}
-use Rattle.lighting.specs.declared.Distance.TheVariants.{Scaled}
+use Rattle.lighting.specs.declared.Distance.{Distance}
 use Rattle.surface.specs.Steps.{offset_of, offset_norm, norm_if, ray_to}
 
 -- a float without its sign
@@ -113,9 +113,9 @@ one_root view position =
     rw (square (at view 0) (at position 0), square (at view 1) (at position 1), square (at view 2) (at position 2)) refl
 
 -- so it is the norm that the ray has where there is a distance
-pub norm_is : (light : Light) (view : List Float) (bias scale : Float) → light.distance ≡ Scaled bias scale → (ray_to light view).norm ≡ offset_norm view light.position
+pub norm_is : (light : Light) (view : List Float) (distance : Distance) → light.distance ≡ Some distance → (ray_to light view).norm ≡ offset_norm view light.position
 unfolding ray_to norm_if is_scaled
-norm_is light view bias scale e = go light.directional
+norm_is light view distance e = go light.directional
   where
     go : (b : Bool) → norm_if (not b || is_scaled light.distance) (plus_of light.position view) ≡ offset_norm view light.position
     go true = rw e (sym (one_root view light.position))

@@ -1,5 +1,5 @@
 -- What the code computes of a fragment's surface, step by step; nobody has to trust it: `shade_law` (ShadeLaws of shading) ties it to Shade. Definitions only.
-use Rattle.std.specs.Prelude.{ℕ, List, [], ◌∷◌, Bool, cond, not, ◌||◌, eqb, Float}
+use Rattle.std.specs.Prelude.{ℕ, List, [], ◌∷◌, Bool, cond, not, ◌||◌, eqb, Float, Option, None, Some}
 use Rattle.std.specs.Float.Ieee.{lt, neg}
 use Rattle.binary32.specs.Binary32.{float0, float1, max_of}
 use Rattle.root.specs.Root.{root_of}
@@ -7,8 +7,7 @@ use Rattle.vectors.specs.Vectors.{at, ◌⊕◌, ◌⊖◌, ◌⊗◌, ◌⊘◌
 use Rattle.lighting.specs.Lighting.{zero_vector, is_scaled}
 use Rattle.lighting.specs.declared.Bump.{Bump}
 use Rattle.lighting.specs.declared.Bump.TheVariants.{Flat, Normal, Tangent}
-use Rattle.lighting.specs.declared.OptionalShadow.{OptionalShadow}
-use Rattle.lighting.specs.declared.OptionalShadow.TheVariants.{Unshadowed, Shadowed}
+use Rattle.lighting.specs.declared.Shadow.{Shadow}
 use Rattle.lighting.specs.declared.Light.{Light}
 use Rattle.surface.specs.declared.Frame.{Frame}
 use Rattle.surface.specs.declared.Ray.{Ray}
@@ -78,9 +77,9 @@ unfoldable pub inverted : Bool → List Float → List Float
 inverted invert t =
     cond invert (float1 ⊖ at t 0 ∷ float1 ⊖ at t 1 ∷ float1 ⊖ at t 2 ∷ float1 ⊖ at t 3 ∷ []) t
 
-unfoldable pub shadow_texel : OptionalShadow → List Float → List Float
-shadow_texel Unshadowed texel = float1 ∷ float1 ∷ float1 ∷ float1 ∷ []
-shadow_texel (Shadowed s) texel = inverted s.invert texel
+unfoldable pub shadow_texel : Option Shadow → List Float → List Float
+shadow_texel None texel = float1 ∷ float1 ∷ float1 ∷ float1 ∷ []
+shadow_texel (Some shadow) texel = inverted shadow.invert texel
 
 -- ---- the ray to a light
 

@@ -35,6 +35,7 @@ pub struct Directions {
     pub half: [f32; 3],
 }
 
+#[tactic(auto, unfolding(crate::specs::Steps::quaternion_norm))]
 fn quaternion_norm(q: [f32; 4]) -> f32
     ensures { result ≡ quaternion_norm q }
 {
@@ -42,6 +43,7 @@ fn quaternion_norm(q: [f32; 4]) -> f32
 }
 
 // A norm that isn't above zero, or is NaN, gives 0, 0, 0, 1.
+#[tactic(auto, unfolding(crate::specs::Steps::quaternion_over, crate::specs::Steps::unit_quaternion))]
 pub fn unit_quaternion(q: [f32; 4]) -> [f32; 4]
     ensures { result ≡ unit_quaternion q }
 {
@@ -54,6 +56,7 @@ pub fn unit_quaternion(q: [f32; 4]) -> [f32; 4]
 }
 
 // Only configuration 8 has a table that reads the tangent.
+#[tactic(auto, unfolding(crate::specs::Steps::tangent_of))]
 fn tangent(config: u32, quaternion: [f32; 4], surface: [f32; 3]) -> [f32; 3]
     ensures { result ≡ tangent_of config quaternion surface }
 {
@@ -65,6 +68,7 @@ fn tangent(config: u32, quaternion: [f32; 4], surface: [f32; 3]) -> [f32; 3]
 }
 
 // A vector that nothing reads is left at zero.
+#[tactic(auto, unfolding(crate::specs::Steps::unit_if))]
 pub fn unit_if(needed: bool, v: [f32; 3]) -> [f32; 3]
     ensures { result ≡ unit_if needed v }
 {

@@ -14,25 +14,22 @@ fn norm(v: [f32; 3]) -> f32
 }
 
 // Each sum, root and quotient stands in the branch that needs it: so the compiler works none of them out for a directional light.
+#[tactic(auto, unfolding(crate::specs::Steps::ray_to, crate::specs::Steps::norm_if, crate::specs::Steps::light_vector, lighting::specs::Lighting::is_scaled, vectors::specs::Vectors::normalized_of))]
 pub fn ray_to(light: Light, view: [f32; 3]) -> Ray
     ensures { result ≡ ray_to light view }
 {
-    let position = light.position;
-    let direction = light.direction;
-    let distance = light.distance;
     if light.directional {
-        if lighting::is_scaled(distance) {
-            return Ray {
-                vector: direction,
-                norm: norm(vectors::plus(position, view)),
-            };
-        }
+        let norm = if light.distance.is_some() {
+            norm(vectors::plus(light.position, view))
+        } else {
+            0.0
+        };
         return Ray {
-            vector: direction,
-            norm: 0.0,
+            vector: light.direction,
+            norm,
         };
     }
-    let offset = vectors::plus(position, view);
+    let offset = vectors::plus(light.position, view);
     let norm = norm(offset);
     Ray {
         vector: vectors::over(offset, norm),
@@ -40,6 +37,7 @@ pub fn ray_to(light: Light, view: [f32; 3]) -> Ray
     }
 }
 
+#[tactic(auto, unfolding(crate::specs::Steps::half_of))]
 fn half(needed: bool, view: [f32; 3], light: [f32; 3]) -> [f32; 3]
     ensures { result ≡ half_of needed view light }
 {
@@ -53,10 +51,8 @@ fn half(needed: bool, view: [f32; 3], light: [f32; 3]) -> [f32; 3]
 pub fn directions_of(vector: [f32; 3], frame: Frame, needed: bool) -> Directions
     ensures { result ≡ directions_by vector frame needed }
 {
-    let norm_view = frame.norm_view;
-    let half = half(needed, norm_view, vector);
     Directions {
         light_vector: vector,
-        half,
+        half: half(needed, frame.norm_view, vector),
     }
 }

@@ -2,8 +2,9 @@
 ghost use Rattle.std.specs.Prelude.{◌≡◌};
 ghost use Rattle.surface.specs.Steps.{inverted as inverted_of, shadow_texel};
 
-use lighting::OptionalShadow;
+use lighting::Shadow;
 
+#[tactic(auto, unfolding(crate::specs::Steps::inverted))]
 fn inverted(invert: bool, t: [f32; 4]) -> [f32; 4]
     ensures { result ≡ inverted_of invert t }
 {
@@ -15,11 +16,12 @@ fn inverted(invert: bool, t: [f32; 4]) -> [f32; 4]
 }
 
 // From the texel of the shadow's unit.
-pub fn shadow_texel(shadow: OptionalShadow, texel: [f32; 4]) -> [f32; 4]
+#[tactic(auto, unfolding(crate::specs::Steps::shadow_texel))]
+pub fn shadow_texel(shadow: Option<Shadow>, texel: [f32; 4]) -> [f32; 4]
     ensures { result ≡ shadow_texel shadow texel }
 {
     match shadow {
-        OptionalShadow::Unshadowed => [1.0, 1.0, 1.0, 1.0],
-        OptionalShadow::Shadowed(s) => inverted(s.invert, texel),
+        None => [1.0, 1.0, 1.0, 1.0],
+        Some(shadow) => inverted(shadow.invert, texel),
     }
 }
