@@ -27,22 +27,25 @@ pub(crate) fn put_head(block: &mut [u32], l: Lighting)
     requires { (length block.old ≡ 328) × (in_range l ≡ true) }
     ensures { block.new ≡ put_words block.old 0 (head_words l) }
 {
-    let needs = flag(l.needs_half, 1) + flag(l.needs_view, 2);
     put_row(
         block,
         0,
-        l.config,
-        l.light_count as u32,
-        bump_word(l.bump),
-        shadow_word(l.shadow),
+        [
+            l.config,
+            l.light_count as u32,
+            bump_word(l.bump),
+            shadow_word(l.shadow),
+        ],
     );
     put_row(
         block,
         4,
-        l.fresnel_primary as u32,
-        l.fresnel_secondary as u32,
-        l.clamp_highlights as u32,
-        needs,
+        [
+            l.fresnel_primary as u32,
+            l.fresnel_secondary as u32,
+            l.clamp_highlights as u32,
+            flag(l.needs_half, 1) + flag(l.needs_view, 2),
+        ],
     );
     put_lookups(block, l);
     put_vector(block, 36, l.global_ambient);

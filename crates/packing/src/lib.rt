@@ -40,12 +40,8 @@ pub fn fill(block: &mut [u32], l: Lighting)
     ensures { block.new ≡ packed l }
 {
     put_head(block, l);
-    let mut slot = Slot(0);
-    while slot.0 < 8 {
-        let at = slot.0;
-        let light = l.lights[at];
-        put_slot(block, slot, at < l.light_count, light);
-        slot.0 += 1;
+    for slot in 0..8 {
+        put_slot(block, Slot(slot), slot < l.light_count, l.lights[slot]);
     }
 }
 

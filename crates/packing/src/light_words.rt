@@ -32,14 +32,16 @@ fn put_distance(block: &mut [u32], at: usize, distance: Option<Distance>)
     ensures { block.new ≡ put_words block.old at (distance_words distance) }
 {
     match distance {
-        None => put_row(block, at, 0, 0, 0, 0),
+        None => put_row(block, at, [0; 4]),
         Some(distance) => put_row(
             block,
             at,
-            binary32::word_of(distance.bias),
-            binary32::word_of(distance.scale),
-            0,
-            0,
+            [
+                binary32::word_of(distance.bias),
+                binary32::word_of(distance.scale),
+                0,
+                0,
+            ],
         ),
     }
 }
@@ -52,5 +54,5 @@ pub(crate) fn put_light(block: &mut [u32], at: usize, l: Light)
     put_colours(block, at, l);
     put_places(block, at + 16, l);
     put_distance(block, at + 28, l.distance);
-    put_row(block, at + 32, flags_word(l), l.number.0 as u32, 0, 0);
+    put_row(block, at + 32, [flags_word(l), l.number.0 as u32, 0, 0]);
 }

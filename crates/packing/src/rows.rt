@@ -1,19 +1,16 @@
 // Rows of a block, put where they belong: four words, a lookup, a vector, and the nine rows of an unlit slot.
-ghost use Rattle.std.specs.Prelude.{◌≡◌, [], ◌∷◌, ◌+◌, ◌≤◌, length, replicate};
+ghost use Rattle.std.specs.Prelude.{◌≡◌, ◌+◌, ◌≤◌, length, replicate};
 ghost use Rattle.packing.specs.Steps.{put_words};
 ghost use Rattle.block.specs.Block.{lookup_words, vector_words};
 
 use lighting::Lookup;
 
 // Four words from `at` on: the block is rows of four.
-pub(crate) fn put_row(block: &mut [u32], at: usize, a: u32, b: u32, c: u32, d: u32)
+pub(crate) fn put_row(block: &mut [u32], at: usize, row: [u32; 4])
     requires { at + 4 ≤ length block.old }
-    ensures { block.new ≡ put_words block.old at (a ∷ b ∷ c ∷ d ∷ []) }
+    ensures { block.new ≡ put_words block.old at row }
 {
-    block[at] = a;
-    block[at + 1] = b;
-    block[at + 2] = c;
-    block[at + 3] = d;
+    block[at..at + 4].copy_from_slice(&row);
 }
 
 // Presence, input, absolute, scale.
@@ -22,14 +19,11 @@ pub(crate) fn put_lookup(block: &mut [u32], at: usize, lookup: Option<Lookup>)
     ensures { block.new ≡ put_words block.old at (lookup_words lookup) }
 {
     match lookup {
-        None => put_row(block, at, 0, 0, 0, 0),
+        None => put_row(block, at, [0; 4]),
         Some(l) => put_row(
             block,
             at,
-            1,
-            l.input,
-            l.absolute as u32,
-            binary32::word_of(l.scale),
+            [1, l.input, l.absolute as u32, binary32::word_of(l.scale)],
         ),
     }
 }
@@ -42,10 +36,12 @@ pub(crate) fn put_vector(block: &mut [u32], at: usize, v: [f32; 3])
     put_row(
         block,
         at,
-        binary32::word_of(v[0]),
-        binary32::word_of(v[1]),
-        binary32::word_of(v[2]),
-        0,
+        [
+            binary32::word_of(v[0]),
+            binary32::word_of(v[1]),
+            binary32::word_of(v[2]),
+            0,
+        ],
     );
 }
 
@@ -54,9 +50,5 @@ pub(crate) fn put_zeros(block: &mut [u32], at: usize)
     requires { at + 36 ≤ length block.old }
     ensures { block.new ≡ put_words block.old at (replicate 36 0) }
 {
-    let mut i = 0;
-    while i < 36 {
-        block[at + i] = 0;
-        i += 1;
-    }
+    block[at..at + 36].fill(0);
 }

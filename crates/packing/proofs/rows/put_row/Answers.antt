@@ -1,17 +1,10 @@
--- `rows::put_row` meets its contract: its four stores are the definition's.
-use native.Mathlib.Omega.{arith}
-use lib.ListN.{length-set}
-use Rattle.packing.specs.PutLaws.{row}
+-- `rows::put_row` meets its contract: the four words of the part are the row's.
+use Rattle.std.proofs.Common.{◌≡◌, ◌+◌, ◌≤◌, length, arith, rules}
+use Rattle.packing.specs.PutLaws.{part}
 use Rattle.packing.proofs.rows.put_row.Goals as goal
 
-pub bounds-block-at-2 : goal.bounds-block-at-2
-bounds-block-at-2 c = simp length-set (omega arith)
-
-pub bounds-block-at-3 : goal.bounds-block-at-3
-bounds-block-at-3 c = simp length-set (omega arith)
-
-pub bounds-block-at-4 : goal.bounds-block-at-4
-bounds-block-at-4 c = simp length-set (omega arith)
-
 pub returns : goal.returns
-returns c = row c.args.block.now c.args.at c.args.a c.args.b c.args.c c.args.d
+returns c =
+    let four : length c.args.row ≡ 4 = search rules in
+    let room : c.args.at + length c.args.row ≤ length c.args.block.now = omega (arith, c.requires) in
+    part _ _ _ _ _ room (omega arith) c.copy_from_slice.ensures.after
