@@ -42,7 +42,7 @@ chain_part a (b ∷ bs) h (suc i) = chain_part (a && b) bs h i
 pub every_one : (n : ℕ) (p : ℕ → Bool) (i : ℕ) → every n p ≡ true → i < n → p i ≡ true
 unfolding every
 every_one zero p i h k = absurd (not-suc-le-zero k)
-every_one (suc n) p i h k = go (eqb i n) refl (λ m. every_one n p i ((and_parts (every n p) (p n) h).0) m)
+every_one (suc n) p i h k = go (eqb i n) refl (λ m. every_one n p i (and_parts (every n p) (p n) h).0 m)
   where
     go : (b : Bool) → eqb i n ≡ b → (i < n → p i ≡ true) → p i ≡ true
     go true e r = ap p (eqb-true i n e) ∙ (and_parts (every n p) (p n) h).1

@@ -141,7 +141,7 @@ bump_cases : (n : ℕ) → bump_formed n ≡ true
 unfolding bump_formed
 bump_cases n h =
     ⊎_elim (λ q. ⊎_elim (λ p. inl (eqb-true n 0 p)) (λ p. inr (inl (of_unit n 512 p))) (or_cases (eqb n 0) (eqb (n % 16) 1 && ltb (n / 16 % 16) 4 && ltb n 512) q))
-    (λ p. inr (inr (eqb-true (n % 16) 2 ((and_parts (eqb (n % 16) 2) (ltb n 64) p).0), ltb-true n 64 ((and_parts (eqb (n % 16) 2) (ltb n 64) p).1))))
+    (λ p. inr (inr (eqb-true (n % 16) 2 (and_parts (eqb (n % 16) 2) (ltb n 64) p).0, ltb-true n 64 (and_parts (eqb (n % 16) 2) (ltb n 64) p).1)))
     (or_cases (eqb n 0 || (eqb (n % 16) 1 && ltb (n / 16 % 16) 4 && ltb n 512)) (eqb (n % 16) 2 && ltb n 64) h)
 
 pub bump_small : (n : ℕ) → bump_formed n ≡ true → n < 512

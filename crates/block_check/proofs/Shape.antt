@@ -8,7 +8,7 @@ use mathlib.Core.List.{List, [], ◌∷◌}
 use lib.Dec.{ltb, leb, eqb}
 use lib.ListN.{get_or}
 use borrow.Author.Tests.{ltb-true}
-use Rattle.flags.specs.FlagsLaws.{both_first, both_second}
+use Rattle.std.proofs.lemmas.Bool.{and_parts}
 use Rattle.lighting.specs.Forms.{every}
 use Rattle.lighting.specs.Lighting.{slot_of}
 use Rattle.block.specs.Block.{from, lookup_at, slot_at, zeros, bit_at, bump_formed, shadow_formed, scale_formed, padding_zero}
@@ -59,10 +59,10 @@ light_is v p f n d =
     also c 3
     also c 4
     also c 5
-    also both_first (eqb (v 30) 0) (eqb (v 31) 0) (c 6)
-    also both_second (eqb (v 30) 0) (eqb (v 31) 0) (c 6)
-    also both_first (eqb (v 34) 0) (eqb (v 35) 0) (c 7)
-    also both_second (eqb (v 34) 0) (eqb (v 35) 0) (c 7)
+    also (and_parts (eqb (v 30) 0) (eqb (v 31) 0) (c 6)).0
+    also (and_parts (eqb (v 30) 0) (eqb (v 31) 0) (c 6)).1
+    also (and_parts (eqb (v 34) 0) (eqb (v 35) 0) (c 7)).0
+    also (and_parts (eqb (v 34) 0) (eqb (v 35) 0) (c 7)).1
     also d
     also f
     also n
@@ -90,7 +90,7 @@ pub light_end : (v : ℕ → ℕ) → light_formed v ≡ true → zeros v 34 2 �
 unfolding padding_zero
 light_end v h =
     let front = eqb (v 3) 0 && eqb (v 7) 0 && eqb (v 11) 0 && eqb (v 15) 0 && eqb (v 19) 0 && eqb (v 23) 0 && eqb (v 27) 0 && zeros v 30 2 in
-    both_second front (zeros v 34 2) (light_parts v h).padding
+    (and_parts front (zeros v 34 2) (light_parts v h).padding).1
 
 -- the parts of a block
 

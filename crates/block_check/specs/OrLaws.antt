@@ -1,12 +1,12 @@
 -- Words put together by OR, and tests of words one part after another. The OR of two words is at least each, so it is zero only if both are and below a
 -- power of 2 only if both are; a test of a run of words is that of its first part and then of its second, by induction on the second. Assumes nothing.
+use Rattle.std.specs.Cmp.{both_ways}
 use Rattle.std.specs.Prelude.{ℕ, zero, suc, ◌+◌, ◌^◌, ◌<◌, ◌≡◌, refl, Bool, true, false, ◌&&◌, eqb, ltb}
 use Rattle.std.proofs.Common.{arith, add-zero, add-suc, add_assoc, sym, ap, ◌∙◌, eqb-true, ne_eqb, ltb-true, lt-ltb}
 use Rattle.std.proofs.Math.Bool.{and-true, and_assoc}
 use Rattle.std.specs.Int.Bits.{bit_or, or_add_and, or_zero_l}
 use Rattle.std.proofs.lemmas.Nat.{or_lt, and_le_l, and_le_r}
-use Rattle.std.proofs.lemmas.Bool.{eqb-false}
-use Rattle.flags.specs.FlagsLaws.{both_first, both_second, alike}
+use Rattle.std.proofs.lemmas.Bool.{eqb-false, and_parts}
 use Rattle.lighting.specs.Forms.{every}
 use Rattle.block.specs.Block.{zeros}
 use Rattle.block.specs.TestLaws.{◌also◌}
@@ -23,7 +23,7 @@ or_more n x false p e q =
     ne_eqb (bit_or n x) 0 (λ k. let h : bit_or n x ≡ 0 = k in z (omega (arith, or_add_and n x, and_le_r n x)))
 
 pub or_below : (k n x : ℕ) (limit : ℕ) → 2 ^ k ≡ limit → ltb (bit_or n x) limit ≡ (ltb n limit && ltb x limit)
-or_below k n x limit l = alike (ltb (bit_or n x) limit) (ltb n limit && ltb x limit) each both
+or_below k n x limit l = both_ways (ltb (bit_or n x) limit) (ltb n limit && ltb x limit) each both
   where
     each : ltb (bit_or n x) limit ≡ true → (ltb n limit && ltb x limit) ≡ true
     each e =
@@ -32,8 +32,8 @@ or_below k n x limit l = alike (ltb (bit_or n x) limit) (ltb n limit && ltb x li
 
     both : (ltb n limit && ltb x limit) ≡ true → ltb (bit_or n x) limit ≡ true
     both e =
-        let m : n < 2 ^ k = rw l (ltb-true n limit (both_first (ltb n limit) (ltb x limit) e)) in
-        let y : x < 2 ^ k = rw l (ltb-true x limit (both_second (ltb n limit) (ltb x limit) e)) in
+        let m : n < 2 ^ k = rw l (ltb-true n limit (and_parts (ltb n limit) (ltb x limit) e).0) in
+        let y : x < 2 ^ k = rw l (ltb-true x limit (and_parts (ltb n limit) (ltb x limit) e).1) in
         lt-ltb (bit_or n x) limit (rw l at (or_lt k n x m y))
 
 -- two pairs of tests, the other way round

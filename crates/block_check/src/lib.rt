@@ -57,6 +57,5 @@ fn lit_form(block: &[u32], bytes: &[u8]) -> BlockForm
     if !lights::are_formed(found) {
         return BlockForm::NotWellFormed;
     }
-    let nans = found.nans;
-    floats_form(block, bytes, count, lanes::are_clear(nans))
+    floats_form(block, bytes, count, lanes::are_clear(found.nans))
 }

@@ -61,8 +61,7 @@ fn with_light(block: &[u32], bytes: &[u8], at: usize, found: Found) -> Found
     requires { (length (given block.now bytes.now) ≡ 328) × (at + 36 ≤ 328) }
     ensures { (found_formed result ≡ (found_formed found && light_formed (from_of (words (given block.now bytes.now)) at))) × (clear result.nans ≡ (clear found.nans && numbers (words (given block.now bytes.now)) at 32)) }
 {
-    let before = found.nans;
-    let nans = with_nans_of_light(block, bytes, at, before);
+    let nans = with_nans_of_light(block, bytes, at, found.nans);
     let flags = word(block, bytes, at + 32);
     Found {
         nans,

@@ -8,8 +8,8 @@ use mathlib.Core.Bool.{Bool, true, ◌&&◌, ◌||◌, and-true}
 use mathlib.Core.List.{List, [], ◌∷◌}
 use lib.Dec.{eqb, ltb, lit<}
 use borrow.Author.Tests.{eq-eqb, ne_eqb, ltb-true}
+use Rattle.std.specs.Cmp.{both_ways}
 use Rattle.sources.specs.Steps.{given}
-use Rattle.flags.specs.FlagsLaws.{alike}
 use Rattle.lighting.specs.Forms.{every}
 use Rattle.block.specs.Block.{words, from, zeros, scale_formed}
 use Rattle.block.specs.TestLaws.{chain_first, chain_part}
@@ -23,7 +23,7 @@ present v e = rw e (sym (and-true (ltb (v 1) 8 && ltb (v 2) 2 && scale_formed (v
 
 missing : (v : ℕ → ℕ) → (v 0 ≡ 1 → ⊥) → zeros v 0 4 ≡ lookup_formed v
 unfolding lookup_formed zeros every scale_formed
-missing v ne = alike (zeros v 0 4) (lookup_formed v) formed zero
+missing v ne = both_ways (zeros v 0 4) (lookup_formed v) formed zero
   where
     formed : zeros v 0 4 ≡ true → lookup_formed v ≡ true
     formed h = rw (← zero_at v 0 4 0 h (lit< tt), ← zero_at v 0 4 1 h (lit< tt), ← zero_at v 0 4 2 h (lit< tt), ← zero_at v 0 4 3 h (lit< tt)) refl

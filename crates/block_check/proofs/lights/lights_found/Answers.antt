@@ -5,8 +5,8 @@ use native.Mathlib.Numerals.{add-one}
 use native.Mathlib.Omega.{arith}
 use mathlib.Core.Path.{◌≡◌, refl, sym, ap, ◌∙◌}
 use mathlib.Core.Bool.{Bool, ◌&&◌}
+use Rattle.std.proofs.lemmas.Bool.{and_parts}
 use Rattle.sources.specs.Steps.{given}
-use Rattle.flags.specs.FlagsLaws.{both_first, both_second}
 use Rattle.lighting.specs.Forms.{every}
 use Rattle.lighting.specs.Lighting.{slot_of}
 use Rattle.block.specs.Block.{words, from, slot_at}
@@ -51,7 +51,7 @@ loop-slot-preserved c =
       omega arith,
       omega arith,
       f.0 ∙ more w l.slot.0 (found_formed l.found) l.invariant.2,
-      λ h. lights_more w l.slot.0 _ _ (both_second (found_formed l.found) one (sym f.0 ∙ h)) (l.invariant.3 (both_first (found_formed l.found) one (sym f.0 ∙ h))) f.1,
+      λ h. lights_more w l.slot.0 _ _ (and_parts (found_formed l.found) one (sym f.0 ∙ h)).1 (l.invariant.3 (and_parts (found_formed l.found) one (sym f.0 ∙ h)).0) f.1,
     )
 
 pub returns : goal.returns
