@@ -6,16 +6,14 @@ use mathlib.Core.Bool.{true, false}
 use mathlib.Core.List.{List, [], ◌∷◌, map}
 use lib.ListN.{set, replicate, get_or}
 use lib.IntN.{pos, negsuc}
+use Rattle.std.specs.Prelude.{None, Some}
 use lib.Ieee.{Float, binary32, add, mul, div, of_int, of_bits}
 use Rattle.fields.specs.Fields.{colour_channel, colour_field, colour_of, signed13, fixed_of, short_exponent, short_sign, short_word, short_float}
 use Rattle.root.specs.Root.{root_of}
 use Rattle.vectors.specs.Vectors.{over_of, dot_of, normalized_of}
 use Rattle.refusals.specs.Refusals.{file_refusal}
-use Rattle.lighting.specs.Lighting.{zero_float, zero_vector, blank_light, off, table_distribution1, table_reflect_green, slot_of}
-use Rattle.lighting.specs.declared.OptionalLookup.TheVariants.{Missing}
-use Rattle.lighting.specs.declared.Distance.TheVariants.{Without, Scaled}
+use Rattle.lighting.specs.Lighting.{zero_float, zero_vector, blank_light, off, on, table_distribution1, table_reflect_green, slot_of}
 use Rattle.lighting.specs.declared.Bump.TheVariants.{Flat}
-use Rattle.lighting.specs.declared.OptionalShadow.TheVariants.{Unshadowed}
 use Rattle.decoding.specs.Read.{flatten, supported, scale_of, bump, shadow, config, lookup, table, light_count, light_number, light, lighting, read, file_read_if, file_read}
 
 -- ---- the whole case
@@ -31,47 +29,44 @@ abbrev one : Float
 one = of_bits binary32 0x3F800000
 
 -- one directional light, white, from straight ahead
-whole-read : read whole ≡ record {
-  on = true;
-  lighting = record {
-    lights =
-        record {
-          specular0 = zero_vector;
-          specular1 = zero_vector;
-          diffuse = one ∷ one ∷ one ∷ [];
-          ambient = zero_vector;
-          position = zero_float ∷ zero_float ∷ one ∷ [];
-          direction = zero_float ∷ zero_float ∷ one ∷ [];
-          spot = zero_vector;
-          directional = true;
-          two_sided = false;
-          geometric0 = false;
-          geometric1 = false;
-          distance = Without;
-          spotlight = false;
-          shadowed = false;
-          number = record { 0 = 0 };
-        }
-        ∷ replicate 7 blank_light;
-    light_count = 1;
-    global_ambient = zero_vector;
-    config = 0;
-    distribution0 = Missing;
-    distribution1 = Missing;
-    fresnel = Missing;
-    reflect_red = Missing;
-    reflect_green = Missing;
-    reflect_blue = Missing;
-    spotlight = record { input = 0; absolute = true; scale = one };
-    fresnel_primary = false;
-    fresnel_secondary = false;
-    clamp_highlights = false;
-    needs_half = false;
-    needs_view = false;
-    bump = Flat;
-    shadow = Unshadowed;
-  };
-}
+whole-read : read whole ≡ on (record {
+  lights =
+      record {
+        specular0 = zero_vector;
+        specular1 = zero_vector;
+        diffuse = one ∷ one ∷ one ∷ [];
+        ambient = zero_vector;
+        position = zero_float ∷ zero_float ∷ one ∷ [];
+        direction = zero_float ∷ zero_float ∷ one ∷ [];
+        spot = zero_vector;
+        directional = true;
+        two_sided = false;
+        geometric0 = false;
+        geometric1 = false;
+        distance = None;
+        spotlight = false;
+        shadowed = false;
+        number = record { 0 = 0 };
+      }
+      ∷ replicate 7 blank_light;
+  light_count = 1;
+  global_ambient = zero_vector;
+  config = 0;
+  distribution0 = None;
+  distribution1 = None;
+  fresnel = None;
+  reflect_red = None;
+  reflect_green = None;
+  reflect_blue = None;
+  spotlight = record { input = 0; absolute = true; scale = one };
+  fresnel_primary = false;
+  fresnel_secondary = false;
+  clamp_highlights = false;
+  needs_half = false;
+  needs_view = false;
+  bump = Flat;
+  shadow = None;
+})
 unfolding read lighting light light_number light_count config supported table lookup scale_of flatten bump shadow blank_light colour_of colour_field colour_channel fixed_of signed13 short_float short_word short_sign short_exponent normalized_of over_of dot_of root_of of_bits of_int add mul div
 whole-read = refl
 
@@ -103,12 +98,12 @@ unfolding light light_number
 slot_holds = refl
 
 -- bit 27 of 1C4 takes the distance from light 3, whatever its slot; bit 25, light 1's, does not
-distance_none : (light (set swapped 0x1C4 0x800_0000) (slot_of 1)).distance ≡ Without
+distance_none : (light (set swapped 0x1C4 0x800_0000) (slot_of 1)).distance ≡ None
 unfolding light light_number
 distance_none = refl
 
 -- 17A 3F000 and 17B BF000, in light 3's block: a bias of 1 and a scale of −1
-distance_kept : (light (set (set (set swapped 0x1C4 0x200_0000) 0x17A 0x3F000) 0x17B 0xBF000) (slot_of 1)).distance ≡ Scaled (of_int binary32 (pos 1)) (of_int binary32 (negsuc 0))
+distance_kept : (light (set (set (set swapped 0x1C4 0x200_0000) 0x17A 0x3F000) 0x17B 0xBF000) (slot_of 1)).distance ≡ Some (record { bias = of_int binary32 (pos 1); scale = of_int binary32 (negsuc 0) })
 unfolding light light_number short_float short_word short_sign short_exponent of_bits of_int
 distance_kept = refl
 

@@ -1,6 +1,6 @@
 -- What the laws of decoding say: of the floats that a light holds, of two files that agree on the registers read, and of every lighting that
 -- `read` gives. Statements only.
-use Rattle.std.specs.Prelude.{ℕ, ◌+◌, ◌≤◌, ◌<◌, ◌≡◌, List, true, length, get_or, Float}
+use Rattle.std.specs.Prelude.{ℕ, ◌+◌, ◌≤◌, ◌<◌, ◌≡◌, List, true, length, get_or, Float, Option, None, Some}
 use Rattle.vectors.specs.Claims.{Vector}
 use Rattle.lighting.specs.Lighting.{blank_light}
 use Rattle.lighting.specs.declared.Bump.{Bump}
@@ -8,10 +8,7 @@ use Rattle.lighting.specs.declared.Bump.TheVariants.{Flat, Normal, Tangent}
 use Rattle.lighting.specs.declared.Light.{Light}
 use Rattle.lighting.specs.declared.Lighting.{Lighting}
 use Rattle.lighting.specs.declared.Lookup.{Lookup}
-use Rattle.lighting.specs.declared.OptionalLookup.{OptionalLookup}
-use Rattle.lighting.specs.declared.OptionalLookup.TheVariants.{Missing, Present}
-use Rattle.lighting.specs.declared.OptionalShadow.{OptionalShadow}
-use Rattle.lighting.specs.declared.OptionalShadow.TheVariants.{Unshadowed, Shadowed}
+use Rattle.lighting.specs.declared.Shadow.{Shadow}
 use Rattle.lighting.specs.Claims.{LightFits}
 use Rattle.decoding.specs.Registers.{reg_enable, reg_lights, reg_disable, reg_table_absolute, reg_light_slots, register_of}
 use Rattle.decoding.specs.Read.{scale_of}
@@ -42,18 +39,18 @@ pub record LookupLimits (l : Lookup) : Type 0 where
   pub input : l.input < 8
   pub scale : IsScale l.scale
 
-abbrev pub OptionalLookupLimits : OptionalLookup → Type 0
-OptionalLookupLimits Missing = Unit {0}
-OptionalLookupLimits (Present l) = LookupLimits l
+abbrev pub OptionalLookupLimits : Option Lookup → Type 0
+OptionalLookupLimits None = Unit {0}
+OptionalLookupLimits (Some l) = LookupLimits l
 
 abbrev pub BumpLimits : Bump → Type 0
 BumpLimits Flat = Unit {0}
 BumpLimits (Normal unit rebuild) = unit ≤ 3
 BumpLimits (Tangent unit) = unit ≤ 3
 
-abbrev pub ShadowLimits : OptionalShadow → Type 0
-ShadowLimits Unshadowed = Unit {0}
-ShadowLimits (Shadowed s) = s.unit ≤ 3
+abbrev pub ShadowLimits : Option Shadow → Type 0
+ShadowLimits None = Unit {0}
+ShadowLimits (Some s) = s.unit ≤ 3
 
 -- the light of each slot, whatever `get_or` takes past the end
 pub record LightLimits (l : Lighting) (s : ℕ) (d : Light) : Type 0 where

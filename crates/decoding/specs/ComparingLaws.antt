@@ -4,10 +4,9 @@ use native.Mathlib.Omega.{arith}
 use Rattle.std.proofs.Math.Numerals.{add-one}
 use Rattle.std.specs.Prelude.{◌≡◌, List, [], ◌∷◌, Bool, true, false, not, get_or, eqb}
 use Rattle.std.proofs.Math.Path.{refl}
-use Rattle.std.proofs.lemmas.Bool.{false≢true, eqb-false}
+use Rattle.std.proofs.lemmas.Bool.{false≢true, eqb-false, and_parts}
 use mir.Val.{bool_byte}
 use Rattle.std.proofs.Common.{eqb-true, eq-eqb}
-use Rattle.flags.specs.FlagsLaws.{both_true}
 use Rattle.decoding.specs.Steps.{differences}
 use Rattle.sources.specs.Sources.{same_words}
 
@@ -17,7 +16,7 @@ same_equal [] [] e = refl
 same_equal [] (y ∷ ys) e = absurd (false≢true e)
 same_equal (x ∷ xs) [] e = absurd (false≢true e)
 same_equal (x ∷ xs) (y ∷ ys) e =
-    let h = both_true (eqb x y) (same_words xs ys) e in
+    let h = and_parts (eqb x y) (same_words xs ys) e in
     let p : x ≡ y = eqb-true x y h.0 in
     let q : xs ≡ ys = same_equal xs ys h.1 in
     cc

@@ -1,12 +1,11 @@
 -- What callers need to know of `read`: it looks at no register but the 139 of `registers_read`, every word that a definition reads being one of
 -- them; and it is off or a lighting within the limits that packing asks for. Assumes nothing.
-use Rattle.std.specs.Prelude.{ℕ, ◌≡◌, Bool, cond, List}
+use Rattle.std.specs.Prelude.{ℕ, ◌≡◌, Bool, cond, List, Option, is_some}
 use Rattle.std.proofs.Math.Path.{refl}
 use Rattle.std.proofs.Common.{◌∙◌, sym, arith}
 use Rattle.std.proofs.Math.Bool.{true, false}
-use Rattle.lighting.specs.Lighting.{off}
+use Rattle.lighting.specs.Lighting.{off, on}
 use Rattle.lighting.specs.declared.Lighting.{Lighting}
-use Rattle.lighting.specs.declared.OptionalLighting.{OptionalLighting}
 use Rattle.decoding.specs.Claims.{SameKept, Limits}
 use Rattle.decoding.specs.SameLaws.{count_same, config_same, lights_same}
 use Rattle.decoding.specs.Read.{lookup, table, read, registers_read}
@@ -33,28 +32,28 @@ module _ (f g : List ℕ) (s : SameKept f g) where
 pub read_same : (f g : List ℕ) → registers_read f ≡ registers_read g → read f ≡ read g
 read_same f g e = read_law f ∙ steps_same f g (kept_same f g e) ∙ sym (read_law g)
 
-pub read_either : (P : OptionalLighting → Type 0) (f : List ℕ) → ((l : Lighting) → Limits l → P (record { on = true; lighting = l })) → P off → P (read f)
+pub read_either : (P : Option Lighting → Type 0) (f : List ℕ) → ((l : Lighting) → Limits l → P (on l)) → P off → P (read f)
 unfolding read_steps
 read_either P f is-on is-off = rw (read_law f) (go (lighting_on f))
   where
-    go : (b : Bool) → P (cond b (record { on = true; lighting = lighting_of f }) off)
+    go : (b : Bool) → P (cond b (on (lighting_of f)) off)
     go true = is-on (lighting_of f) (lighting_limits f)
     go false = is-off
 
 -- the two cases of a reading
 module _ (f : List ℕ) where
-  pub read-on : (read f).on ≡ lighting_on f
+  pub read-on : is_some (read f) ≡ lighting_on f
   unfolding read_steps
   read-on = rw (read_law f) (go (lighting_on f))
     where
-      go : (b : Bool) → (cond b (record { on = true; lighting = lighting_of f }) off).on ≡ b
+      go : (b : Bool) → is_some (cond b (on (lighting_of f)) off) ≡ b
       go true = refl
       go false = refl
 
-  pub read-lit : (read f).on ≡ true → read f ≡ record { on = true; lighting = lighting_of f }
+  pub read-lit : is_some (read f) ≡ true → read f ≡ on (lighting_of f)
   unfolding read_steps
   read-lit e = read_law f ∙ rw (sym read-on ∙ e) refl
 
-  pub read_unlit : (read f).on ≡ false → read f ≡ off
+  pub read_unlit : is_some (read f) ≡ false → read f ≡ off
   unfolding read_steps
   read_unlit e = read_law f ∙ rw (sym read-on ∙ e) refl

@@ -1,5 +1,5 @@
 -- What holds of the lights of every register file: their count and their numbers are small, the lights beyond the count are blank, and what a light holds are values of binary32. Assumes nothing.
-use Rattle.std.specs.Prelude.{ℕ, zero, suc, ◌+◌, ◌≤◌, ◌<◌, ◌≡◌, refl, Bool, cond, List, T, ltb, length, get_or}
+use Rattle.std.specs.Prelude.{ℕ, zero, suc, ◌+◌, ◌≤◌, ◌<◌, ◌≡◌, refl, Bool, cond, List, T, ltb, length, get_or, None, Some}
 use Rattle.std.proofs.Math.Bool.{true, false}
 use Rattle.std.proofs.Common.{arith, le-ltb}
 use Rattle.std.specs.Float.{binary32}
@@ -14,7 +14,6 @@ use Rattle.vectors.specs.Claims.{Vector}
 use Rattle.lighting.specs.Lighting.{zero_float, zero_vector, blank_light}
 use Rattle.lighting.specs.declared.Slot.{Slot}
 use Rattle.lighting.specs.declared.LightNumber.{LightNumber}
-use Rattle.lighting.specs.declared.Distance.TheVariants.{Without, Scaled}
 use Rattle.lighting.specs.declared.Light.{Light}
 use Rattle.lighting.specs.Claims.{DistanceFits, LightFits}
 use Rattle.decoding.specs.Registers.{reg_config1, register_of, flag_of}
@@ -104,7 +103,7 @@ module _ (f : List ℕ) (n : LightNumber) where
   unfolding distance_of
   light_distance = go (flag_of (register_of f reg_config1) (24 + n.0))
     where
-      go : (b : Bool) → DistanceFits (cond b Without (Scaled (short_float 12 7 (light_register f n 0xA)) (short_float 12 7 (light_register f n 0xB))))
+      go : (b : Bool) → DistanceFits (cond b None (Some (record { bias = short_float 12 7 (light_register f n 0xA); scale = short_float 12 7 (light_register f n 0xB) })))
       go true = tt
       go false = (float_fits 12 7 (light_register f n 0xA), float_fits 12 7 (light_register f n 0xB))
 

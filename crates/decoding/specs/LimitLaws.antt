@@ -1,13 +1,11 @@
 -- The lighting of every register file lies within the limits that packing asks for: each field is cut out of a word by its width, each scale comes out of the codes' table, and each float is the result of an operation that rounds to binary32. Assumes nothing.
-use Rattle.std.specs.Prelude.{ℕ, zero, suc, ◌*◌, ◌≤◌, ◌<◌, ◌≡◌, refl, Bool, true, false, not, cond, ◌&&◌, List, T, eqb, get_or, Float}
+use Rattle.std.specs.Prelude.{ℕ, zero, suc, ◌*◌, ◌≤◌, ◌<◌, ◌≡◌, refl, Bool, true, false, not, cond, ◌&&◌, List, T, eqb, get_or, Float, None, Some}
 use Rattle.std.proofs.Common.{arith}
 use Rattle.std.specs.Float.{binary32}
 use Rattle.std.specs.Float.Ieee.{of_int, of_bits, div, fits}
 use Rattle.std.specs.Float.Ieee.Bits.{of_bits-fits}
-use Rattle.lighting.specs.declared.OptionalLookup.TheVariants.{Missing, Present}
 use Rattle.lighting.specs.declared.Bump.TheVariants.{Flat, Normal, Tangent}
 use Rattle.lighting.specs.declared.Shadow.{Shadow}
-use Rattle.lighting.specs.declared.OptionalShadow.TheVariants.{Unshadowed, Shadowed}
 use Rattle.lighting.specs.declared.Light.{Light}
 use Rattle.decoding.specs.Registers.{reg_config1, reg_table_scale, register_of, bits_of, flag_of}
 use Rattle.decoding.specs.Read.{config, supported, scale_of, lookup, table, bump, shadow}
@@ -60,7 +58,7 @@ table_limits : (f : List ℕ) (number disabled field : ℕ) → OptionalLookupLi
 unfolding table
 table_limits f number disabled field = go (not (flag_of (register_of f reg_config1) disabled) && supported (config f) number)
   where
-    go : (b : Bool) → OptionalLookupLimits (cond b (Present (lookup f field)) Missing)
+    go : (b : Bool) → OptionalLookupLimits (cond b (Some (lookup f field)) None)
     go true = lookup_limits f field
     go false = tt
 
@@ -77,7 +75,7 @@ shadow_limits : (w : ℕ) → ShadowLimits (shadow w)
 unfolding shadow
 shadow_limits w = go (flag_of w 0) _ (omega arith)
   where
-    go : (b : Bool) (s : Shadow) → s.unit ≤ 3 → ShadowLimits (cond b (Shadowed s) Unshadowed)
+    go : (b : Bool) (s : Shadow) → s.unit ≤ 3 → ShadowLimits (cond b (Some s) None)
     go true s h = h
     go false s h = tt
 

@@ -3,40 +3,31 @@
 -- That the code's own steps come to this: ReadLaws. The contracts of `decode`, `read` and `registers_read` cite it.
 -- The registers and tables by name, registers[r] and the bits of a word are in Registers; the three kinds of number that registers hold are the
 -- fields chapter's: short_float (pica_float; it ignores bits above the sign, which the Rust masks), colour_of (color) and fixed_of (fixed).
-use Rattle.std.specs.Prelude.{ℕ, zero, suc, ◌+◌, ◌*◌, ◌/◌, ◌^◌, List, [], ◌∷◌, ◌++◌, map, Bool, true, false, not, ◌&&◌, ◌||◌, eqb, ltb, pos, length, get_or, take, drop, Float, if◌then◌else◌}
+use Rattle.std.specs.Prelude.{ℕ, zero, suc, ◌+◌, ◌*◌, ◌/◌, ◌^◌, List, [], ◌∷◌, ◌++◌, map, Bool, not, ◌&&◌, ◌||◌, eqb, ltb, pos, length, get_or, take, drop, Float, Option, None, Some, Result, Ok, Err, if◌then◌else◌}
+use Rattle.std.specs.List.{list_any}
 use Rattle.std.specs.Float.{binary32}
 use Rattle.std.specs.Float.Ieee.{of_int}
-use Rattle.refusals.specs.Refusals.{outcome_number, file_refusal}
+use Rattle.refusals.specs.Refusals.{number_of, file_refusal}
+use Rattle.refusals.specs.declared.Refusal.{Refusal}
 use Rattle.fields.specs.Fields.{colour_of, fixed_of, short_float}
 use Rattle.vectors.specs.Vectors.{◌⊘◌, normalized_of}
-use Rattle.lighting.specs.Lighting.{slot_of, blank_light, off, table_distribution0, table_distribution1, table_fresnel, table_reflect_blue, table_reflect_green, table_reflect_red, table_spotlight}
+use Rattle.lighting.specs.Lighting.{slot_of, blank_light, off, on, table_distribution0, table_distribution1, table_fresnel, table_reflect_blue, table_reflect_green, table_reflect_red, table_spotlight}
 use Rattle.lighting.specs.declared.Bump.{Bump}
 use Rattle.lighting.specs.declared.Bump.TheVariants.{Flat, Normal, Tangent}
-use Rattle.lighting.specs.declared.Distance.TheVariants.{Without, Scaled}
 use Rattle.lighting.specs.declared.Light.{Light}
 use Rattle.lighting.specs.declared.LightNumber.{LightNumber}
 use Rattle.lighting.specs.declared.Lighting.{Lighting}
 use Rattle.lighting.specs.declared.Lookup.{Lookup}
-use Rattle.lighting.specs.declared.OptionalLighting.{OptionalLighting}
-use Rattle.lighting.specs.declared.OptionalLookup.{OptionalLookup}
-use Rattle.lighting.specs.declared.OptionalLookup.TheVariants.{Missing, Present}
-use Rattle.lighting.specs.declared.OptionalShadow.{OptionalShadow}
-use Rattle.lighting.specs.declared.OptionalShadow.TheVariants.{Unshadowed, Shadowed}
+use Rattle.lighting.specs.declared.Shadow.{Shadow}
 use Rattle.lighting.specs.declared.Slot.{Slot}
-use Rattle.decoding.specs.declared.LightingRead.{LightingRead}
 use Rattle.decoding.specs.Registers.{reg_enable, reg_lights, reg_global_ambient, reg_light_count, reg_config0, reg_config1, reg_disable, reg_table_absolute, reg_table_input, reg_table_scale, reg_light_slots, register_of, bits_of, flag_of}
 
 -- ---- Rust's forms
 
--- iter().any(p)
-abbrev pub any : {A : Type 0} → (A → Bool) → List A → Bool
-any p [] = false
-any p (x ∷ xs) = p x || any p xs
-
 -- an optional lookup as the list of its lookups, none or one
-unfoldable pub flatten : OptionalLookup → List Lookup
-flatten Missing = []
-flatten (Present lookup) = lookup ∷ []
+unfoldable pub flatten : Option Lookup → List Lookup
+flatten None = []
+flatten (Some lookup) = lookup ∷ []
 
 -- n as f32
 abbrev pub as_float : ℕ → Float
@@ -76,14 +67,14 @@ bump config0 =
     else Flat
 
 -- shadow: none where bit 0 is clear.
-unfoldable pub shadow : ℕ → OptionalShadow
+unfoldable pub shadow : ℕ → Option Shadow
 shadow config0 =
     let unit = bits_of config0 24 2 in
     let invert = flag_of config0 18 in
     let primary = flag_of config0 16 in
     let secondary = flag_of config0 17 in
     let alpha = flag_of config0 19 in
-    if flag_of config0 0 then Shadowed (record { unit = unit; invert = invert; primary = primary; secondary = secondary; alpha = alpha }) else Unshadowed
+    if flag_of config0 0 then Some (record { unit = unit; invert = invert; primary = primary; secondary = secondary; alpha = alpha }) else None
 
 -- ---- Lighting::read
 
@@ -107,8 +98,8 @@ module _ (registers : List ℕ) where
       }
 
   -- table: missing where its bit of 1C4 is set or the configuration has no room for it.
-  unfoldable pub table : ℕ → ℕ → ℕ → OptionalLookup
-  table number disabled field = if not (flag_of config1 disabled) && supported config number then Present (lookup field) else Missing
+  unfoldable pub table : ℕ → ℕ → ℕ → Option Lookup
+  table number disabled field = if not (flag_of config1 disabled) && supported config number then Some (lookup field) else None
 
   -- light_count: "(1C2 bits 0–2) + 1"
   unfoldable pub light_count : ℕ
@@ -138,7 +129,7 @@ module _ (registers : List ℕ) where
         two_sided = flag_of (block 9) 1;
         geometric0 = flag_of (block 9) 2;
         geometric1 = flag_of (block 9) 3;
-        distance = if flag_of config1 (24 + number.0) then Without else Scaled (float20 (block 10)) (float20 (block 11));
+        distance = if flag_of config1 (24 + number.0) then None else Some (record { bias = float20 (block 10); scale = float20 (block 11) });
         spotlight = not (flag_of config1 (8 + number.0)) && supported config table_spotlight;
         shadowed = not (flag_of config1 number.0);
         number = number;
@@ -157,11 +148,11 @@ module _ (registers : List ℕ) where
       let blue = table table_reflect_blue 22 4 in
       let spotlight = lookup 2 in
       -- the lookups that get read, the spotlights' where a light on has one, and what their inputs take
-      let spotlights = if any (λ light. light.spotlight) on then spotlight ∷ [] else [] in
+      let spotlights = if list_any (λ light. light.spotlight) on then spotlight ∷ [] else [] in
       let tables = flatten distribution0 ++ flatten distribution1 ++ flatten fresnel ++ flatten red ++ flatten green ++ flatten blue ++ spotlights in
-      let half_input = any (λ l. eqb l.input 0 || eqb l.input 1 || (eqb l.input 5 && eqb config 8)) tables in
-      let view_input = any (λ l. eqb l.input 1 || eqb l.input 2) tables in
-      let needs_half = any (λ light. light.geometric0 || light.geometric1) on || half_input in
+      let half_input = list_any (λ l. eqb l.input 0 || eqb l.input 1 || (eqb l.input 5 && eqb config 8)) tables in
+      let view_input = list_any (λ l. eqb l.input 1 || eqb l.input 2) tables in
+      let needs_half = list_any (λ light. light.geometric0 || light.geometric1) on || half_input in
       let needs_view = needs_half || view_input in
       record {
         lights = lights;
@@ -185,10 +176,10 @@ module _ (registers : List ℕ) where
       }
 
   -- "Off when 8F bit 0 is clear or 1C6 bit 0 is set."
-  unfoldable pub read : OptionalLighting
+  unfoldable pub read : Option Lighting
   read =
       if not (flag_of (register_of registers reg_enable) 0) || flag_of (register_of registers reg_disable) 0 then off
-      else record { on = true; lighting = lighting }
+      else on lighting
 
 -- ---- Lighting::registers_read
 
@@ -208,7 +199,7 @@ registers_read registers =
 -- A refusal's number, or 0, and the lighting.
 pub record FileRead : Type 0 where
   pub number : ℕ
-  pub lighting : OptionalLighting
+  pub lighting : Option Lighting
 
 -- A refused file has no lighting, which is off.
 unfoldable pub file_read_if : ℕ → List ℕ → FileRead
@@ -220,5 +211,6 @@ abbrev pub file_read : List ℕ → FileRead
 file_read registers = file_read_if (file_refusal (length registers)) registers
 
 -- what the function's answer says in these terms
-abbrev pub file_read_of : LightingRead → FileRead
-file_read_of r = record { number = outcome_number r.outcome; lighting = r.decoded }
+abbrev pub file_read_of : Result (Option Lighting) Refusal → FileRead
+file_read_of (Ok decoded) = record { number = 0; lighting = decoded }
+file_read_of (Err refusal) = record { number = number_of refusal; lighting = off }

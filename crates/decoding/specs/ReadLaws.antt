@@ -1,21 +1,21 @@
 -- What the code computes step by step is the law's `read`: a light in its slot and the needs for half and view are worked out in other words,
 -- and all else is the same word for word. By unfolding, and by cases on the lookups. Assumes nothing.
-use Rattle.std.specs.Prelude.{ℕ, ◌≡◌, List, [], ◌∷◌, ◌++◌, map, Bool, true, false, not, cond, ◌&&◌, ◌||◌, ltb}
+use Rattle.std.specs.Prelude.{ℕ, ◌≡◌, List, [], ◌∷◌, ◌++◌, map, Bool, true, false, not, cond, ◌&&◌, ◌||◌, ltb, Option, None, Some}
 use Rattle.std.proofs.Math.Path.{refl}
 use Rattle.std.proofs.Common.{◌∙◌}
-use Rattle.std.proofs.Math.Bool.{or-false, or_assoc}
+use Rattle.std.proofs.Math.Bool.{or-false}
 use Rattle.std.proofs.Math.ListN.{take}
+use Rattle.std.specs.List.{list_any}
+use Rattle.std.proofs.lemmas.List.Folds.{list_any-append}
 use Rattle.fields.specs.Fields.{colour_of}
-use Rattle.lighting.specs.Lighting.{blank_light, off}
+use Rattle.lighting.specs.Lighting.{blank_light, off, on}
 use Rattle.lighting.specs.declared.Light.{Light}
 use Rattle.lighting.specs.declared.Lighting.{Lighting}
 use Rattle.lighting.specs.declared.Lookup.{Lookup}
-use Rattle.lighting.specs.declared.OptionalLookup.{OptionalLookup}
-use Rattle.lighting.specs.declared.OptionalLookup.TheVariants.{Missing, Present}
 use Rattle.lighting.specs.declared.Slot.{Slot}
 use Rattle.lighting.specs.declared.TableLookups.{TableLookups}
 use Rattle.decoding.specs.Registers.{reg_enable, reg_global_ambient, reg_config0, reg_disable, register_of, flag_of}
-use Rattle.decoding.specs.Read.{any, flatten, slots, bump, shadow, config, light_count, light_number, light, lighting, read}
+use Rattle.decoding.specs.Read.{flatten, slots, bump, shadow, config, light_count, light_number, light, lighting, read}
 use Rattle.decoding.specs.Steps.{light_register, light_colour, position_of, spot_of, distance_of, spotlit_of, light_of, slot_light, lights_of, lookups_of, has_spotlight, is_geometric, lit_lights, input_half, input_view, lookup_half, lookup_view, half_input, view_input, needs_half, needs_view, lighting_of, lighting_on, read_steps}
 
 -- ---- the lights
@@ -35,48 +35,44 @@ module _ (f : List ℕ) where
 
 -- ---- what the lights and the lookups need
 
-append_law : (p : Lookup → Bool) (a b : List Lookup) → any p (a ++ b) ≡ (any p a || any p b)
-append_law p [] b = refl
-append_law p (l ∷ a) b = rw (append_law p a b, or_assoc)
-
-inputs_half_law : (config : ℕ) (o : OptionalLookup) → any (λ l. input_half config l.input) (flatten o) ≡ lookup_half config o
+inputs_half_law : (config : ℕ) (o : Option Lookup) → list_any (λ l. input_half config l.input) (flatten o) ≡ lookup_half config o
 unfolding flatten lookup_half
-inputs_half_law config Missing = refl
-inputs_half_law config (Present l) = rw or-false
+inputs_half_law config None = refl
+inputs_half_law config (Some l) = rw or-false
 
-inputs_view_law : (o : OptionalLookup) → any (λ l. input_view l.input) (flatten o) ≡ lookup_view o
+inputs_view_law : (o : Option Lookup) → list_any (λ l. input_view l.input) (flatten o) ≡ lookup_view o
 unfolding flatten lookup_view
-inputs_view_law Missing = refl
-inputs_view_law (Present l) = rw or-false
+inputs_view_law None = refl
+inputs_view_law (Some l) = rw or-false
 
-spotlights_law : (p : Lookup → Bool) (lit : Bool) (l : Lookup) → any p (cond lit (l ∷ []) []) ≡ (lit && p l)
+spotlights_law : (p : Lookup → Bool) (lit : Bool) (l : Lookup) → list_any p (cond lit (l ∷ []) []) ≡ (lit && p l)
 spotlights_law p true l = rw or-false
 spotlights_law p false l = refl
 
 -- some lookup of six optional ones and of the spotlights'
-tables_law : (p : Lookup → Bool) (a b c d e g : OptionalLookup) (lit : Bool) (l : Lookup)
-    → any p (flatten a ++ flatten b ++ flatten c ++ flatten d ++ flatten e ++ flatten g ++ cond lit (l ∷ []) [])
-    ≡ (any p (flatten a) || any p (flatten b) || any p (flatten c) || any p (flatten d) || any p (flatten e) || any p (flatten g) || (lit && p l))
-tables_law p a b c d e g lit l = simp (append_law, spotlights_law)
+tables_law : (p : Lookup → Bool) (a b c d e g : Option Lookup) (lit : Bool) (l : Lookup)
+    → list_any p (flatten a ++ flatten b ++ flatten c ++ flatten d ++ flatten e ++ flatten g ++ cond lit (l ∷ []) [])
+    ≡ (list_any p (flatten a) || list_any p (flatten b) || list_any p (flatten c) || list_any p (flatten d) || list_any p (flatten e) || list_any p (flatten g) || (lit && p l))
+tables_law p a b c d e g lit l = simp (list_any-append, spotlights_law)
 
-module _ (config : ℕ) (on : List Light) (a b c d e g : OptionalLookup) (s : Lookup) where
+module _ (config : ℕ) (on : List Light) (a b c d e g : Option Lookup) (s : Lookup) where
   abbrev lookups : TableLookups
   lookups = record { distribution0 = a; distribution1 = b; fresnel = c; reflect_red = d; reflect_green = e; reflect_blue = g; spotlight = s }
 
   abbrev tables : List Lookup
-  tables = flatten a ++ flatten b ++ flatten c ++ flatten d ++ flatten e ++ flatten g ++ cond (any has_spotlight on) (s ∷ []) []
+  tables = flatten a ++ flatten b ++ flatten c ++ flatten d ++ flatten e ++ flatten g ++ cond (list_any has_spotlight on) (s ∷ []) []
 
   abbrev needs_half_by : Bool
-  needs_half_by = any is_geometric on || any (λ (l : Lookup). input_half config l.input) tables
+  needs_half_by = list_any is_geometric on || list_any (λ (l : Lookup). input_half config l.input) tables
 
   abbrev needs_view_by : Bool
-  needs_view_by = needs_half_by || any (λ (l : Lookup). input_view l.input) tables
+  needs_view_by = needs_half_by || list_any (λ (l : Lookup). input_view l.input) tables
 
-  needs_half_law : needs_half_by ≡ (any is_geometric on || half_input config (any has_spotlight on) lookups)
+  needs_half_law : needs_half_by ≡ (list_any is_geometric on || half_input config (list_any has_spotlight on) lookups)
   unfolding half_input
   needs_half_law = simp (tables_law, inputs_half_law)
 
-  needs_view_law : needs_view_by ≡ (any is_geometric on || half_input config (any has_spotlight on) lookups || view_input (any has_spotlight on) lookups)
+  needs_view_law : needs_view_by ≡ (list_any is_geometric on || half_input config (list_any has_spotlight on) lookups || view_input (list_any has_spotlight on) lookups)
   unfolding view_input
   needs_view_law = rw needs_half_law (simp (tables_law, inputs_view_law))
 
@@ -133,7 +129,7 @@ module _ (f : List ℕ) where
 
 -- ---- the whole
 
-off_law : (a b : Bool) (l m : Lighting) → l ≡ m → cond (not a || b) off (record { on = true; lighting = l }) ≡ cond (a && not b) (record { on = true; lighting = m }) off
+off_law : (a b : Bool) (l m : Lighting) → l ≡ m → cond (not a || b) off (on l) ≡ cond (a && not b) (on m) off
 off_law true true l m h = refl
 off_law true false l m h = cc
 off_law false b l m h = refl

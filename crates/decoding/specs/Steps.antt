@@ -1,21 +1,19 @@
 -- What the code computes step by step; nobody has to trust it: ReadLaws ties it to the law, Read. Definitions only.
-use Rattle.std.specs.Prelude.{ℕ, zero, suc, ◌+◌, ◌*◌, ◌/◌, ◌^◌, Bool, true, false, not, cond, ◌&&◌, ◌||◌, List, [], ◌∷◌, ◌++◌, eqb, ltb, get_or, set, replicate, take, Float}
+use Rattle.std.specs.Prelude.{ℕ, zero, suc, ◌+◌, ◌*◌, ◌/◌, ◌^◌, Bool, false, not, cond, ◌&&◌, ◌||◌, List, [], ◌∷◌, ◌++◌, eqb, ltb, get_or, set, replicate, take, Float, Option, None, Some}
+use Rattle.std.specs.List.{list_any}
 use mir.Val.{bool_byte}
 use Rattle.fields.specs.Fields.{colour_field, colour_of, fixed_of, short_float}
 use Rattle.vectors.specs.Vectors.{normalized_of}
-use Rattle.lighting.specs.Lighting.{blank_light, off, table_distribution0, table_distribution1, table_fresnel, table_reflect_blue, table_reflect_green, table_reflect_red, table_spotlight, zero_float}
+use Rattle.lighting.specs.Lighting.{blank_light, off, on, table_distribution0, table_distribution1, table_fresnel, table_reflect_blue, table_reflect_green, table_reflect_red, table_spotlight, zero_float}
 use Rattle.lighting.specs.declared.Distance.{Distance}
-use Rattle.lighting.specs.declared.Distance.TheVariants.{Without, Scaled}
 use Rattle.lighting.specs.declared.Light.{Light}
 use Rattle.lighting.specs.declared.LightNumber.{LightNumber}
 use Rattle.lighting.specs.declared.Lighting.{Lighting}
-use Rattle.lighting.specs.declared.OptionalLighting.{OptionalLighting}
-use Rattle.lighting.specs.declared.OptionalLookup.{OptionalLookup}
-use Rattle.lighting.specs.declared.OptionalLookup.TheVariants.{Missing, Present}
+use Rattle.lighting.specs.declared.Lookup.{Lookup}
 use Rattle.lighting.specs.declared.Slot.{Slot}
 use Rattle.lighting.specs.declared.TableLookups.{TableLookups}
 use Rattle.decoding.specs.Registers.{reg_enable, reg_lights, reg_global_ambient, reg_config0, reg_config1, reg_disable, register_of, flag_of}
-use Rattle.decoding.specs.Read.{any, supported, bump, shadow, config, lookup, table, light_count, light_number}
+use Rattle.decoding.specs.Read.{supported, bump, shadow, config, lookup, table, light_count, light_number}
 
 -- ---- A light
 
@@ -54,11 +52,11 @@ spot_of f n =
     ∷ []
 
 -- by the light's number, and not by its slot
-unfoldable pub distance_of : List ℕ → LightNumber → Distance
+unfoldable pub distance_of : List ℕ → LightNumber → Option Distance
 distance_of f n =
     cond (flag_of (register_of f reg_config1) (24 + n.0))
-    Without
-    (Scaled (short_float 12 7 (light_register f n 0xA)) (short_float 12 7 (light_register f n 0xB)))
+    None
+    (Some (record { bias = short_float 12 7 (light_register f n 0xA); scale = short_float 12 7 (light_register f n 0xB) }))
 
 unfoldable pub spotlit_of : List ℕ → LightNumber → Bool
 spotlit_of f n = not (flag_of (register_of f reg_config1) (8 + n.0)) && supported (config f) table_spotlight
@@ -134,13 +132,13 @@ input_half config input = eqb input 0 || eqb input 1 || (eqb input 5 && eqb conf
 unfoldable pub input_view : ℕ → Bool
 input_view input = eqb input 1 || eqb input 2
 
-unfoldable pub lookup_half : ℕ → OptionalLookup → Bool
-lookup_half config Missing = false
-lookup_half config (Present l) = input_half config l.input
+unfoldable pub lookup_half : ℕ → Option Lookup → Bool
+lookup_half config None = false
+lookup_half config (Some l) = input_half config l.input
 
-unfoldable pub lookup_view : OptionalLookup → Bool
-lookup_view Missing = false
-lookup_view (Present l) = input_view l.input
+unfoldable pub lookup_view : Option Lookup → Bool
+lookup_view None = false
+lookup_view (Some l) = input_view l.input
 
 -- some lookup that is read takes the half vector; the spotlights' lookup is read where a light on has one
 unfoldable pub half_input : ℕ → Bool → TableLookups → Bool
@@ -165,11 +163,11 @@ view_input spotlit l =
 
 unfoldable pub needs_half : List ℕ → Bool
 needs_half f =
-    any is_geometric (lit_lights f)
-    || half_input (config f) (any has_spotlight (lit_lights f)) (lookups_of f)
+    list_any is_geometric (lit_lights f)
+    || half_input (config f) (list_any has_spotlight (lit_lights f)) (lookups_of f)
 
 unfoldable pub needs_view : List ℕ → Bool
-needs_view f = needs_half f || view_input (any has_spotlight (lit_lights f)) (lookups_of f)
+needs_view f = needs_half f || view_input (list_any has_spotlight (lit_lights f)) (lookups_of f)
 
 -- ---- The lighting
 
@@ -199,8 +197,8 @@ lighting_of f =
 unfoldable pub lighting_on : List ℕ → Bool
 lighting_on f = flag_of (register_of f reg_enable) 0 && not (flag_of (register_of f reg_disable) 0)
 
-unfoldable pub read_steps : List ℕ → OptionalLighting
-read_steps f = cond (lighting_on f) (record { on = true; lighting = lighting_of f }) off
+unfoldable pub read_steps : List ℕ → Option Lighting
+read_steps f = cond (lighting_on f) (on (lighting_of f)) off
 
 -- ---- Comparing words
 

@@ -5,6 +5,7 @@ ghost use Rattle.decoding.specs.Read.{config as config_of, supported as supporte
 use crate::registers::{REG_CONFIG0, bits, register};
 use lighting::tables::{DISTRIBUTION0, DISTRIBUTION1, FRESNEL, REFLECT_RED, SPOTLIGHT};
 
+#[tactic(auto, unfolding(crate::specs::Read::config))]
 pub(crate) fn configuration(file: &[u32]) -> u32
     ensures { result ≡ config_of file.now }
 {
@@ -18,22 +19,10 @@ pub(crate) fn supported(config: u32, table: u32) -> bool
 {
     match table {
         DISTRIBUTION0 => config != 1,
-        DISTRIBUTION1 => match config {
-            0..=1 | 5 => false,
-            _ => true,
-        },
-        SPOTLIGHT => match config {
-            2..=3 => false,
-            _ => true,
-        },
-        FRESNEL => match config {
-            0 | 2 | 4 => false,
-            _ => true,
-        },
+        DISTRIBUTION1 => !matches!(config, 0 | 1 | 5),
+        SPOTLIGHT => !matches!(config, 2 | 3),
+        FRESNEL => !matches!(config, 0 | 2 | 4),
         REFLECT_RED => config != 3,
-        _ => match config {
-            4..=5 | 8 => true,
-            _ => false,
-        },
+        _ => matches!(config, 4 | 5 | 8),
     }
 }

@@ -14,27 +14,17 @@ pub mod registers_read;
 mod slots;
 mod table_lookups;
 
-ghost use Rattle.std.specs.Prelude.{◌≡◌, true};
-ghost use Rattle.lighting.specs.Lighting.{off as off_of};
+ghost use Rattle.std.specs.Prelude.{◌≡◌, IsSome, Some, is_some};
 ghost use Rattle.decoding.specs.Read.{read as read_of, file_read, file_read_of};
 
 use crate::register_lighting::lighting;
 use crate::registers::{REG_DISABLE, REG_ENABLE, flag, register};
-use lighting::{Lighting, OptionalLighting, blank_lighting};
-use refusals::{Outcome, Refusal};
-
-fn off() -> OptionalLighting
-    ensures { result ≡ off_of }
-{
-    OptionalLighting {
-        on: false,
-        lighting: blank_lighting(),
-    }
-}
+use lighting::Lighting;
+use refusals::Refusal;
 
 // Whether the registers set up a lighting.
 pub fn is_on(file: &[u32]) -> bool
-    ensures { result ≡ (read_of file.now).on }
+    ensures { result ≡ is_some (read_of file.now) }
 {
     flag(register(file, REG_ENABLE), 0) & !flag(register(file, REG_DISABLE), 0)
 }
@@ -42,45 +32,28 @@ pub fn is_on(file: &[u32]) -> bool
 // The lighting of a register file that sets one up.
 // Asks: that it does; whoever packs it at once has no use for an optional one.
 pub fn read_lit(file: &[u32]) -> Lighting
-    requires { (read_of file.now).on ≡ true }
-    ensures { result ≡ (read_of file.now).lighting }
+    requires { IsSome (read_of file.now) }
+    ensures { read_of file.now ≡ Some result }
 {
     lighting(file)
 }
 
-// The lighting of a register file, or off. A file too short to hold a register is taken to hold 0 there.
-pub fn decode(file: &[u32]) -> OptionalLighting
+// The lighting of a register file, or none where it is off. A file too short to hold a register is taken to hold 0 there.
+pub fn decode(file: &[u32]) -> Option<Lighting>
     ensures { result ≡ read_of file.now }
 {
     if is_on(file) {
-        OptionalLighting {
-            on: true,
-            lighting: lighting(file),
-        }
+        Some(lighting(file))
     } else {
-        off()
+        None
     }
 }
 
-// What reading answers: a refused file has no lighting, which is off.
-#[derive(Clone, Copy)]
-pub struct LightingRead {
-    pub outcome: Outcome,
-    pub decoded: OptionalLighting,
-}
-
-pub fn read(file: &[u32]) -> LightingRead
+pub fn read(file: &[u32]) -> Result<Option<Lighting>, Refusal>
     ensures { file_read_of result ≡ file_read file.now }
 {
     if file.len() < 474 {
-        LightingRead {
-            outcome: Outcome::Refused(Refusal::ShortFile),
-            decoded: off(),
-        }
-    } else {
-        LightingRead {
-            outcome: Outcome::Done,
-            decoded: decode(file),
-        }
+        return Err(Refusal::ShortFile);
     }
+    Ok(decode(file))
 }

@@ -8,6 +8,7 @@ use fields::{color, fixed};
 use lighting::LightNumber;
 
 // The word at an offset in a light's block.
+#[tactic(auto, unfolding(crate::specs::Steps::light_register))]
 pub(crate) fn light_register(file: &[u32], number: LightNumber, offset: usize) -> u32
     requires { (number.0 < 8) × (offset < 16) }
     ensures { result ≡ light_register file.now number offset }
@@ -22,17 +23,16 @@ pub(crate) fn colors(first: u32, second: u32, third: u32, fourth: u32) -> [f32; 
 {
     let words = [first, second, third, fourth];
     let mut channels = [0.0; 12];
-    let mut k = 0;
-    while k < 4 {
+    for k in 0..4 {
         let three = color(words[k]);
         channels[3 * k] = three[0];
         channels[3 * k + 1] = three[1];
         channels[3 * k + 2] = three[2];
-        k += 1;
     }
     channels
 }
 
+#[tactic(auto, unfolding(crate::specs::Steps::position_of))]
 pub(crate) fn position(file: &[u32], number: LightNumber) -> [f32; 3]
     requires { number.0 < 8 }
     ensures { result ≡ position_of file.now number }
@@ -42,6 +42,7 @@ pub(crate) fn position(file: &[u32], number: LightNumber) -> [f32; 3]
     [half(first), half(first >> 16), half(second)]
 }
 
+#[tactic(auto, unfolding(crate::specs::Steps::spot_of))]
 pub(crate) fn spot(file: &[u32], number: LightNumber) -> [f32; 3]
     requires { number.0 < 8 }
     ensures { result ≡ spot_of file.now number }

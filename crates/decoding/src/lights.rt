@@ -9,21 +9,25 @@ use crate::slots::{light_count, light_number};
 use fields::short_floats::float20;
 use lighting::tables::SPOTLIGHT;
 use lighting::{Distance, Light, LightNumber, Slot, blank_light};
+use std::array;
 use vectors::normalized;
 
 // The bit that takes the distance away is that of the light's number, whatever its slot.
-fn distance(file: &[u32], number: LightNumber) -> Distance
+#[tactic(auto, unfolding(crate::specs::Steps::distance_of))]
+fn distance(file: &[u32], number: LightNumber) -> Option<Distance>
     requires { number.0 < 8 }
     ensures { result ≡ distance_of file.now number }
 {
     if flag(register(file, REG_CONFIG1), 24 + number.0 as u32) {
-        return Distance::Without;
+        return None;
     }
-    let bias = float20(light_register(file, number, 0xA));
-    let scale = float20(light_register(file, number, 0xB));
-    Distance::Scaled(bias, scale)
+    Some(Distance {
+        bias: float20(light_register(file, number, 0xA)),
+        scale: float20(light_register(file, number, 0xB)),
+    })
 }
 
+#[tactic(auto, unfolding(crate::specs::Steps::spotlit_of))]
 fn spotlit(file: &[u32], number: LightNumber) -> bool
     requires { number.0 < 8 }
     ensures { result ≡ spotlit_of file.now number }
@@ -49,7 +53,7 @@ fn light(file: &[u32], number: LightNumber) -> Light
         specular1: [channels[3], channels[4], channels[5]],
         diffuse: [channels[6], channels[7], channels[8]],
         ambient: [channels[9], channels[10], channels[11]],
-        position: position,
+        position,
         direction: normalized(position),
         spot: spot(file, number),
         directional: flag(flags, 0),
@@ -59,11 +63,12 @@ fn light(file: &[u32], number: LightNumber) -> Light
         distance: distance(file, number),
         spotlight: spotlit(file, number),
         shadowed: !flag(register(file, REG_CONFIG1), number.0 as u32),
-        number: number,
+        number,
     }
 }
 
 // The light in a slot, blank beyond the count.
+#[tactic(auto, unfolding(crate::specs::Steps::slot_light), using(crate::specs::LightLaws::number_lt))]
 fn slot_light(file: &[u32], slot: Slot) -> Light
     requires { slot.0 < 8 }
     ensures { result ≡ slot_light file.now slot }
@@ -75,17 +80,9 @@ fn slot_light(file: &[u32], slot: Slot) -> Light
     }
 }
 
+#[tactic(auto, unfolding(crate::specs::Steps::lights_of))]
 pub(crate) fn lights(file: &[u32]) -> [Light; 8]
     ensures { result ≡ lights_of file.now }
 {
-    [
-        slot_light(file, Slot(0)),
-        slot_light(file, Slot(1)),
-        slot_light(file, Slot(2)),
-        slot_light(file, Slot(3)),
-        slot_light(file, Slot(4)),
-        slot_light(file, Slot(5)),
-        slot_light(file, Slot(6)),
-        slot_light(file, Slot(7)),
-    ]
+    array::from_fn(|slot| slot_light(file, Slot(slot)))
 }

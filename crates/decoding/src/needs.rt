@@ -1,43 +1,28 @@
 // What the lights on and the lookups that are read need: the half vector, and the unit vector toward the viewer.
-ghost use Rattle.std.specs.Prelude.{◌≡◌, ◌≤◌, take};
-ghost use Rattle.decoding.specs.Read.{any as any_of};
+ghost use Rattle.std.specs.Prelude.{◌≡◌};
+ghost use Rattle.std.specs.List.{list_any};
 ghost use Rattle.decoding.specs.Steps.{has_spotlight, is_geometric, input_half, input_view, lookup_half, lookup_view, half_input, view_input};
 
-use lighting::{Light, OptionalLookup, Slot, TableLookups};
+use lighting::{Light, Lookup, TableLookups};
 
-// Whether a light on has a spotlight.
-pub(crate) fn any_spotlight(lights: [Light; 8], count: usize) -> bool
-    requires { count ≤ 8 }
-    ensures { result ≡ any_of has_spotlight (take count lights) }
+// Whether one of the lights has a spotlight.
+pub(crate) fn any_spotlight(lights: &[Light]) -> bool
+    ensures { result ≡ list_any has_spotlight lights.now }
 {
-    let mut any = false;
-    let mut slot = Slot(0);
-    while slot.0 < count {
-        let at = slot.0;
-        let light = lights[at];
-        any = any | light.spotlight;
-        slot.0 += 1;
-    }
-    any
+    lights.iter().any(|light| light.spotlight)
 }
 
-// Whether a light on has a geometric factor.
-pub(crate) fn any_geometric(lights: [Light; 8], count: usize) -> bool
-    requires { count ≤ 8 }
-    ensures { result ≡ any_of is_geometric (take count lights) }
+// Whether one of the lights has a geometric factor.
+pub(crate) fn any_geometric(lights: &[Light]) -> bool
+    ensures { result ≡ list_any is_geometric lights.now }
 {
-    let mut any = false;
-    let mut slot = Slot(0);
-    while slot.0 < count {
-        let at = slot.0;
-        let light = lights[at];
-        any = any | (light.geometric0 | light.geometric1);
-        slot.0 += 1;
-    }
-    any
+    lights
+        .iter()
+        .any(|light| light.geometric0 | light.geometric1)
 }
 
 // The inputs that read the half vector.
+#[tactic(auto, unfolding(crate::specs::Steps::input_half))]
 fn input_half(config: u32, input: u32) -> bool
     ensures { result ≡ input_half config input }
 {
@@ -45,66 +30,51 @@ fn input_half(config: u32, input: u32) -> bool
 }
 
 // The inputs that read the unit vector toward the viewer.
+#[tactic(auto, unfolding(crate::specs::Steps::input_view))]
 fn input_view(input: u32) -> bool
     ensures { result ≡ input_view input }
 {
     (input == 1) | (input == 2)
 }
 
-fn lookup_half(config: u32, lookup: OptionalLookup) -> bool
+#[tactic(auto, unfolding(crate::specs::Steps::lookup_half))]
+fn lookup_half(config: u32, lookup: Option<Lookup>) -> bool
     ensures { result ≡ lookup_half config lookup }
 {
-    match lookup {
-        OptionalLookup::Missing => false,
-        OptionalLookup::Present(found) => input_half(config, found.input),
-    }
+    lookup.is_some_and(|found| input_half(config, found.input))
 }
 
-fn lookup_view(lookup: OptionalLookup) -> bool
+#[tactic(auto, unfolding(crate::specs::Steps::lookup_view))]
+fn lookup_view(lookup: Option<Lookup>) -> bool
     ensures { result ≡ lookup_view lookup }
 {
-    match lookup {
-        OptionalLookup::Missing => false,
-        OptionalLookup::Present(found) => input_view(found.input),
-    }
+    lookup.is_some_and(|found| input_view(found.input))
 }
 
 // Whether a lookup that is read takes the half vector; the spotlights' is read where a light on has one.
+#[tactic(auto, unfolding(crate::specs::Steps::half_input))]
 pub(crate) fn half_input(config: u32, spotlit: bool, tables: TableLookups) -> bool
     ensures { result ≡ half_input config spotlit tables }
 {
-    let distribution0 = tables.distribution0;
-    let distribution1 = tables.distribution1;
-    let fresnel = tables.fresnel;
-    let red = tables.reflect_red;
-    let green = tables.reflect_green;
-    let blue = tables.reflect_blue;
-    let spotlight = tables.spotlight;
-    lookup_half(config, distribution0)
-        | lookup_half(config, distribution1)
-        | lookup_half(config, fresnel)
-        | lookup_half(config, red)
-        | lookup_half(config, green)
-        | lookup_half(config, blue)
-        | (spotlit & input_half(config, spotlight.input))
+    lookup_half(config, tables.distribution0)
+        | lookup_half(config, tables.distribution1)
+        | lookup_half(config, tables.fresnel)
+        | lookup_half(config, tables.reflect_red)
+        | lookup_half(config, tables.reflect_green)
+        | lookup_half(config, tables.reflect_blue)
+        | (spotlit & input_half(config, tables.spotlight.input))
 }
 
 // The same of the unit vector toward the viewer.
+#[tactic(auto, unfolding(crate::specs::Steps::view_input))]
 pub(crate) fn view_input(spotlit: bool, tables: TableLookups) -> bool
     ensures { result ≡ view_input spotlit tables }
 {
-    let distribution0 = tables.distribution0;
-    let distribution1 = tables.distribution1;
-    let fresnel = tables.fresnel;
-    let red = tables.reflect_red;
-    let green = tables.reflect_green;
-    let blue = tables.reflect_blue;
-    let spotlight = tables.spotlight;
-    lookup_view(distribution0)
-        | lookup_view(distribution1)
-        | lookup_view(fresnel)
-        | lookup_view(red)
-        | lookup_view(green)
-        | lookup_view(blue)
-        | (spotlit & input_view(spotlight.input))
+    lookup_view(tables.distribution0)
+        | lookup_view(tables.distribution1)
+        | lookup_view(tables.fresnel)
+        | lookup_view(tables.reflect_red)
+        | lookup_view(tables.reflect_green)
+        | lookup_view(tables.reflect_blue)
+        | (spotlit & input_view(tables.spotlight.input))
 }

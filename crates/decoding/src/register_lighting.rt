@@ -21,29 +21,23 @@ pub(crate) fn lighting(file: &[u32]) -> Lighting
     let count = light_count(file);
     let lights = lights(file);
     let tables = lookups(file);
-    let distribution0 = tables.distribution0;
-    let distribution1 = tables.distribution1;
-    let fresnel = tables.fresnel;
-    let red = tables.reflect_red;
-    let green = tables.reflect_green;
-    let blue = tables.reflect_blue;
-    let spotlight = tables.spotlight;
-    let spotlit = any_spotlight(lights, count);
-    let half = any_geometric(lights, count) | half_input(config, spotlit, tables);
+    let on = &lights[..count];
+    let spotlit = any_spotlight(on);
+    let half = any_geometric(on) | half_input(config, spotlit, tables);
     let view = half | view_input(spotlit, tables);
     let ambient = colors(register(file, REG_GLOBAL_AMBIENT), 0, 0, 0);
     Lighting {
-        lights: lights,
+        lights,
         light_count: count,
         global_ambient: [ambient[0], ambient[1], ambient[2]],
-        config: config,
-        distribution0: distribution0,
-        distribution1: distribution1,
-        fresnel: fresnel,
-        reflect_red: red,
-        reflect_green: green,
-        reflect_blue: blue,
-        spotlight: spotlight,
+        config,
+        distribution0: tables.distribution0,
+        distribution1: tables.distribution1,
+        fresnel: tables.fresnel,
+        reflect_red: tables.reflect_red,
+        reflect_green: tables.reflect_green,
+        reflect_blue: tables.reflect_blue,
+        spotlight: tables.spotlight,
         fresnel_primary: flag(config0, 2),
         fresnel_secondary: flag(config0, 3),
         clamp_highlights: flag(config0, 27),

@@ -1,13 +1,10 @@
 // The registers that `read` takes: compared with the kept ones, and kept.
-ghost use Rattle.std.specs.Prelude.{◌≡◌, ◌&&◌, ◌+◌, ◌≤◌, length};
+ghost use Rattle.std.specs.Prelude.{◌≡◌, ◌+◌, ◌≤◌, length};
 ghost use Rattle.decoding.specs.Read.{registers_read};
 ghost use Rattle.decoding.specs.Steps.{differences};
 ghost use Rattle.sources.specs.Sources.{same_words};
 
-use crate::registers::{
-    REG_DISABLE, REG_ENABLE, REG_LIGHT_SLOTS, REG_LIGHTS, REG_TABLE_ABSOLUTE, REG_TABLE_INPUT,
-    REG_TABLE_SCALE,
-};
+use crate::registers::{REG_DISABLE, REG_ENABLE, REG_LIGHT_SLOTS, REG_LIGHTS, REG_TABLE_ABSOLUTE};
 
 // How many of `count` words differ, from `from` on in the file and from `at` on in the kept words. It looks at all of them: that is
 // quicker than to stop at the first.
@@ -16,26 +13,24 @@ fn differing(file: &[u32], from: usize, kept: &[u32], at: usize, count: usize) -
     ensures { (result ≡ differences file.now from kept.now at count) × (result ≤ count) }
 {
     let mut found = 0;
-    let mut j = 0;
-    while j < count {
+    for j in 0..count {
         found += (file[from + j] != kept[at + j]) as u32;
-        j += 1;
     }
     found
 }
 
 // Whether the words that `read` takes are the kept ones.
 // Asks: a file that its caller has not refused, and all the kept words, so that no word is tested for being there.
-pub fn current(file: &[u32], filled: bool, kept: &[u32]) -> bool
+pub fn current(file: &[u32], kept: &[u32]) -> bool
     requires { (474 ≤ length file.now) × (length kept.now ≡ 139) }
-    ensures { result ≡ (filled && same_words kept.now (registers_read file.now)) }
+    ensures { result ≡ same_words kept.now (registers_read file.now) }
 {
     let enable = differing(file, REG_ENABLE, kept, 0, 1);
     let lights = differing(file, REG_LIGHTS, kept, 1, 133);
     let disable = differing(file, REG_DISABLE, kept, 134, 1);
     let tables = differing(file, REG_TABLE_ABSOLUTE, kept, 135, 3);
     let slots = differing(file, REG_LIGHT_SLOTS, kept, 138, 1);
-    filled & (enable + lights + disable + tables + slots == 0)
+    enable + lights + disable + tables + slots == 0
 }
 
 // The words that `read` takes, of all the lights whichever it decodes, into the kept ones.
@@ -45,16 +40,9 @@ pub fn keep(file: &[u32], kept: &mut [u32])
     ensures { kept.new ≡ registers_read file.now }
 {
     kept[0] = file[REG_ENABLE];
-    // from REG_LIGHTS on
-    let mut j = 1;
-    while j < 134 {
-        kept[j] = file[0x13F + j];
-        j += 1;
-    }
+    kept[1..134].copy_from_slice(&file[REG_LIGHTS..REG_LIGHTS + 133]);
     kept[134] = file[REG_DISABLE];
-    kept[135] = file[REG_TABLE_ABSOLUTE];
-    kept[136] = file[REG_TABLE_INPUT];
-    kept[137] = file[REG_TABLE_SCALE];
+    kept[135..138].copy_from_slice(&file[REG_TABLE_ABSOLUTE..REG_TABLE_ABSOLUTE + 3]);
     kept[138] = file[REG_LIGHT_SLOTS];
 }
 

@@ -5,6 +5,7 @@ ghost use Rattle.decoding.specs.Read.{light_count, light_number};
 use crate::registers::{REG_LIGHT_COUNT, REG_LIGHT_SLOTS, bits, register};
 use lighting::{LightNumber, Slot};
 
+#[tactic(auto, unfolding(crate::specs::Read::light_count))]
 pub(crate) fn light_count(file: &[u32]) -> usize
     ensures { result ≡ light_count file.now }
 {
@@ -12,6 +13,7 @@ pub(crate) fn light_count(file: &[u32]) -> usize
 }
 
 // Which light a slot holds.
+#[tactic(auto, unfolding(crate::specs::Read::light_number))]
 pub(crate) fn light_number(file: &[u32], slot: Slot) -> LightNumber
     requires { slot.0 < 8 }
     ensures { result ≡ light_number file.now slot }

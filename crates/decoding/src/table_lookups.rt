@@ -10,7 +10,7 @@ use crate::registers::{
 use lighting::tables::{
     DISTRIBUTION0, DISTRIBUTION1, FRESNEL, REFLECT_BLUE, REFLECT_GREEN, REFLECT_RED,
 };
-use lighting::{Lookup, OptionalLookup, TableLookups};
+use lighting::{Lookup, TableLookups};
 
 // What the scale codes mean.
 const SCALES: [f32; 8] = [1.0, 2.0, 4.0, 8.0, 0.0, 0.0, 0.25, 0.5];
@@ -23,6 +23,7 @@ fn scale(code: u32) -> f32
 }
 
 // Each table's input, absolute bit and scale sit four bits apart; the absolute bit is a disable bit one above.
+#[tactic(auto, unfolding(crate::specs::Read::lookup))]
 fn lookup(file: &[u32], field: u32) -> Lookup
     requires { field < 7 }
     ensures { result ≡ lookup_of file.now field }
@@ -35,18 +36,20 @@ fn lookup(file: &[u32], field: u32) -> Lookup
 }
 
 // The lookup of a table that its bit of 1C4 doesn't disable and the configuration has room for.
-fn table(file: &[u32], table: u32, disabled: u32, field: u32) -> OptionalLookup
+#[tactic(auto, unfolding(crate::specs::Read::table))]
+fn table(file: &[u32], table: u32, disabled: u32, field: u32) -> Option<Lookup>
     requires { field < 7 }
     ensures { result ≡ table_of file.now table disabled field }
 {
     if !flag(register(file, REG_CONFIG1), disabled) & supported(configuration(file), table) {
-        OptionalLookup::Present(lookup(file, field))
+        Some(lookup(file, field))
     } else {
-        OptionalLookup::Missing
+        None
     }
 }
 
 // The tables of a draw.
+#[tactic(auto, unfolding(crate::specs::Steps::lookups_of))]
 pub(crate) fn lookups(file: &[u32]) -> TableLookups
     ensures { result ≡ lookups_of file.now }
 {

@@ -9,6 +9,4 @@ returns-then-is_on c =
     rw c.lighting.ensures (sym (read-lit a.file.now (sym c.is_on.ensures ∙ c.if-is_on.true)))
 
 pub returns-else-is_on : goal.returns-else-is_on
-returns-else-is_on c =
-    let a = c.args in
-    c.off.ensures ∙ sym (read_unlit a.file.now (sym c.is_on.ensures ∙ c.if-is_on.false))
+returns-else-is_on c = sym (read_unlit c.args.file.now (sym c.is_on.ensures ∙ c.if-is_on.false))

@@ -1,14 +1,12 @@
 -- The kept words by their places. 139 words are the file's kept words exactly where they agree with it at each place, since the parts have
 -- their lengths in a file of 474 words. Assumes nothing.
-use Prim.Native.Nat.{ℕ, zero, suc, ◌+◌, ◌-◌, ◌≤◌, ◌<◌}
 use native.Mathlib.Omega.{arith}
-use mathlib.Core.Path.{◌≡◌, refl, sym, ◌∙◌, subst}
-use mathlib.Core.List.{List, [], ◌∷◌, ◌++◌}
-use mathlib.Core.Bool.{Bool, true, false, false≢true}
-use lib.ListN.{length, get_or, set, take, drop, length-drop, length-set, get_or-append}
-use lib.Seq.{length-take-le, get_or-append-add, get_or_at, get_or-take, get_or-drop, get_or-set_same, get_or-set_other, ext_get_or}
-use lib.Dec.{ltb, eqb}
-use borrow.Author.Tests.{eqb-true, eqb-false, ltb-true, ltb-false, eq-eqb, ne_eqb}
+use borrow.Rule.Slice.PartMut.{put_mid}
+use Rattle.std.proofs.Common.{◌≡◌, ℕ, suc, ◌+◌, ◌-◌, ◌≤◌, ◌<◌, refl, sym, ◌∙◌, subst, List, [], ◌∷◌, ◌++◌, Bool, true, false, append_assoc, length, get_or, set, take, drop, length-drop, length-append, ltb, eqb, eqb-true, ltb-true, ltb-false, eq-eqb, ne_eqb}
+use Rattle.std.proofs.lemmas.Bool.{false≢true, eqb-false}
+use lib.ListN.{get_or-append}
+use lib.Seq.{length-take-le, get_or-append-add, get_or-take, get_or-drop, ext_get_or}
+use Rattle.std.proofs.lemmas.List.{get_or_at, set_at, take_at, drop_at}
 use Rattle.decoding.specs.Read.{registers_read}
 use Rattle.decoding.specs.Steps.{differences}
 use Rattle.sources.specs.Sources.{same_words}
@@ -127,82 +125,29 @@ module _ (f : List ℕ) (h : 474 ≤ length f) where
       go true e = eq-eqb (found k) 0 (same (same_equal k (registers_read f) e))
       go false e = ne_eqb (found k) 0 (λ z. false≢true (sym e ∙ (rw (none z) (same_self (registers_read f)))))
 
--- one light's word more
-pub lights_more : (f k : List ℕ) (j : ℕ) → 1 ≤ j → j < length k → ((x : ℕ) → 1 + x < j → get_or f (0x140 + x) 0 ≡ get_or k (1 + x) 0) → (x : ℕ) → 1 + x < j + 1 → get_or f (0x140 + x) 0 ≡ get_or (set k j (get_or f (0x13F + j) 0)) (1 + x) 0
-lights_more f k j one low below x h = go (eqb (1 + x) j) refl
-  where
-    go : (b : Bool) → eqb (1 + x) j ≡ b → get_or f (0x140 + x) 0 ≡ get_or (set k j (get_or f (0x13F + j) 0)) (1 + x) 0
-    go true e =
-        let p : 1 + x ≡ j = eqb-true (1 + x) j e in
-        let q : 0x13F + j ≡ 0x140 + x = omega arith in
-        rw (p, q) (sym (get_or-set_same k j (get_or f (0x140 + x) 0) 0 low))
-    go false e =
-        let p : 1 + x ≡ j → ⊥ = eqb-false (1 + x) j e in
-        below x (omega arith) ∙ sym (get_or-set_other k j (1 + x) (get_or f (0x13F + j) 0) 0 p)
+-- the words 134 to 138, and a write to each of their parts
+put_last : (a t r : List ℕ) (d s : ℕ) → length a ≡ 134 → length t ≡ 3 → length r ≡ 5 → set (put_mid 135 3 (set (a ++ r) 134 d) t) 138 s ≡ a ++ (d ∷ (t ++ (s ∷ [])))
+put_last a t (d' ∷ t' ∷ u' ∷ v' ∷ s' ∷ []) d s p q n =
+    let r' = t' ∷ u' ∷ v' ∷ s' ∷ [] in
+    let b = a ++ (d ∷ []) in
+    let lb : length b ≡ 135 = simp length-append (omega arith) in
+    let lt : length (b ++ t) ≡ 138 = simp length-append (omega arith) in
+    rw (set_at a d' r' d 134 p, ← append_assoc a (d ∷ []) r', take_at b r' 135 lb, drop_at b r' 135 lb, ← append_assoc b t (s' ∷ []), set_at (b ++ t) s' [] s 138 lt)
+    (simp append_assoc)
+put_last a t [] d s p q n = absurd (omega arith)
+put_last a t (_ ∷ []) d s p q n = absurd (omega arith)
+put_last a t (_ ∷ _ ∷ []) d s p q n = absurd (omega arith)
+put_last a t (_ ∷ _ ∷ _ ∷ []) d s p q n = absurd (omega arith)
+put_last a t (_ ∷ _ ∷ _ ∷ _ ∷ []) d s p q n = absurd (omega arith)
+put_last a t (_ ∷ _ ∷ _ ∷ _ ∷ _ ∷ _ ∷ _) d s p q n = absurd (omega arith)
 
--- the five stores after the lights
-module _ (k : List ℕ) (n : length k ≡ 139) (a b c d e : ℕ) where
-  abbrev stored : List ℕ
-  stored = set (set (set (set (set k 134 a) 135 b) 136 c) 137 d) 138 e
+-- a write to each of the five parts of 139 words
+pub put_parts : (k l t : List ℕ) (e d s : ℕ) → length k ≡ 139 → length l ≡ 133 → length t ≡ 3 → set (put_mid 135 3 (set (put_mid 1 133 (set k 0 e) l) 134 d) t) 138 s ≡ e ∷ (l ++ (d ∷ (t ++ (s ∷ []))))
+put_parts [] l t e d s n p q = absurd (omega arith)
+put_parts (x ∷ k) l t e d s n p q = put_last (e ∷ l) t (drop 133 k) d s (omega arith) q (simp length-drop (omega arith))
 
-  stored-length : length stored ≡ 139
-  stored-length = simp length-set n
-
-  before : (x : ℕ) → x < 134 → get_or stored x 0 ≡ get_or k x 0
-  before x h =
-      get_or-set_other (set (set (set (set k 134 a) 135 b) 136 c) 137 d) 138 x e 0 (λ p. omega arith)
-      ∙ get_or-set_other (set (set (set k 134 a) 135 b) 136 c) 137 x d 0 (λ p. omega arith)
-      ∙ get_or-set_other (set (set k 134 a) 135 b) 136 x c 0 (λ p. omega arith)
-      ∙ get_or-set_other (set k 134 a) 135 x b 0 (λ p. omega arith)
-      ∙ get_or-set_other k 134 x a 0 (λ p. omega arith)
-
-  at_134 : get_or stored 134 0 ≡ a
-  at_134 =
-      get_or-set_other (set (set (set (set k 134 a) 135 b) 136 c) 137 d) 138 134 e 0 (λ p. omega arith)
-      ∙ get_or-set_other (set (set (set k 134 a) 135 b) 136 c) 137 134 d 0 (λ p. omega arith)
-      ∙ get_or-set_other (set (set k 134 a) 135 b) 136 134 c 0 (λ p. omega arith)
-      ∙ get_or-set_other (set k 134 a) 135 134 b 0 (λ p. omega arith)
-      ∙ get_or-set_same k 134 a 0 (omega arith)
-
-  at_135 : get_or stored 135 0 ≡ b
-  at_135 =
-      get_or-set_other (set (set (set (set k 134 a) 135 b) 136 c) 137 d) 138 135 e 0 (λ p. omega arith)
-      ∙ get_or-set_other (set (set (set k 134 a) 135 b) 136 c) 137 135 d 0 (λ p. omega arith)
-      ∙ get_or-set_other (set (set k 134 a) 135 b) 136 135 c 0 (λ p. omega arith)
-      ∙ get_or-set_same (set k 134 a) 135 b 0 (simp length-set (omega arith))
-
-  at_136 : get_or stored 136 0 ≡ c
-  at_136 =
-      get_or-set_other (set (set (set (set k 134 a) 135 b) 136 c) 137 d) 138 136 e 0 (λ p. omega arith)
-      ∙ get_or-set_other (set (set (set k 134 a) 135 b) 136 c) 137 136 d 0 (λ p. omega arith)
-      ∙ get_or-set_same (set (set k 134 a) 135 b) 136 c 0 (simp length-set (omega arith))
-
-  at_137 : get_or stored 137 0 ≡ d
-  at_137 =
-      get_or-set_other (set (set (set (set k 134 a) 135 b) 136 c) 137 d) 138 137 e 0 (λ p. omega arith)
-      ∙ get_or-set_same (set (set (set k 134 a) 135 b) 136 c) 137 d 0 (simp length-set (omega arith))
-
-  at_138 : get_or stored 138 0 ≡ e
-  at_138 = get_or-set_same (set (set (set (set k 134 a) 135 b) 136 c) 137 d) 138 e 0 (simp length-set (omega arith))
-
-pub stored_kept : (f k : List ℕ) → 474 ≤ length f → (n : length k ≡ 139) → get_or f 0x08F 0 ≡ get_or k 0 0 → ((x : ℕ) → 1 + x < 134 → get_or f (0x140 + x) 0 ≡ get_or k (1 + x) 0) → stored k n (get_or f 0x1C6 0) (get_or f 0x1D0 0) (get_or f 0x1D1 0) (get_or f 0x1D2 0) (get_or f 0x1D9 0) ≡ registers_read f
-stored_kept f k h n first lights =
-    let a = get_or f 0x1C6 0 in
-    let b = get_or f 0x1D0 0 in
-    let c = get_or f 0x1D1 0 in
-    let d = get_or f 0x1D2 0 in
-    let e = get_or f 0x1D9 0 in
-    agrees_kept f h (stored k n a b c d e) (stored-length k n a b c d e)
-    (record {
-      enable = first ∙ sym (before k n a b c d e 0 (omega arith));
-      lights = λ x p. lights x (omega arith) ∙ sym (before k n a b c d e (1 + x) (omega arith));
-      disable = sym (at_134 k n a b c d e);
-      tables = three f (stored k n a b c d e) (sym (at_135 k n a b c d e)) (sym (at_136 k n a b c d e)) (sym (at_137 k n a b c d e));
-      slots = sym (at_138 k n a b c d e);
-    })
-  where
-    three : (f k : List ℕ) → get_or f 0x1D0 0 ≡ get_or k 135 0 → get_or f 0x1D1 0 ≡ get_or k 136 0 → get_or f 0x1D2 0 ≡ get_or k 137 0 → (x : ℕ) → x < 3 → get_or f (0x1D0 + x) 0 ≡ get_or k (135 + x) 0
-    three f k p q r zero h = p
-    three f k p q r (suc zero) h = q
-    three f k p q r (suc (suc zero)) h = r
-    three f k p q r (suc (suc (suc x))) h = absurd (omega arith)
+-- the parts of a file
+pub put_kept : (f k l t : List ℕ) → 474 ≤ length f → length k ≡ 139 → l ≡ take 133 (drop 0x140 f) → t ≡ take 3 (drop 0x1D0 f) → set (put_mid 135 3 (set (put_mid 1 133 (set k 0 (get_or f 0x08F 0)) l) 134 (get_or f 0x1C6 0)) t) 138 (get_or f 0x1D9 0) ≡ registers_read f
+unfolding registers_read
+put_kept f k l t h n p q =
+    rw (p, q) (put_parts k (take 133 (drop 0x140 f)) (take 3 (drop 0x1D0 f)) _ _ _ n (lights_length f h) (tables_length_lem f h))
