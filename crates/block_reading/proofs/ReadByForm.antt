@@ -1,58 +1,58 @@
--- The answers of `read_block`, by the form that the check found. The form, the refusal and the reading are decided by the same four tests of
+-- The answers of `read_block`, by the block's length and the form that the check found. The form, the refusal and the reading are decided by the same tests of
 -- the block. Assumes nothing.
 use Prim.Native.Nat.{ℕ}
-use mathlib.Core.Path.{◌≡◌, refl, sym, ◌∙◌}
+use mathlib.Core.Path.{◌≡◌, refl, sym, ap, ◌∙◌}
 use mathlib.Core.Bool.{Bool, true, false, cond, ◌||◌}
-use mathlib.Core.List.{List}
+use mathlib.Core.List.{List, []}
 use lib.Dec.{eqb}
 use lib.ListN.{length}
-use Rattle.refusals.specs.Refusals.{block_refusal, ◌else◌}
+use borrow.Author.Tests.{eq-eqb, ne_eqb}
+use Rattle.refusals.specs.Refusals.{block_refusal}
+use Rattle.sources.specs.Steps.{given}
+use Rattle.sources.specs.SourcesLaws.{given-words}
 use Rattle.lighting.specs.declared.Lighting.{Lighting}
-use Rattle.lighting.specs.Lighting.{blank_lighting, off, on}
+use Rattle.lighting.specs.Lighting.{off, on}
 use Rattle.block.specs.declared.BlockForm.{BlockForm}
+use Rattle.block.specs.declared.BlockForm.TheVariants.{Off, NotWellFormed, NanFree, WithNan}
 use Rattle.block.specs.Block.{words, all_zero, well_formed, block_lighting, block_reading, words_refusal, BlockAnswer, block_answer, read_refusal, block_read}
 use Rattle.block.specs.Steps.{nan_free, form_of, block_form}
-use Rattle.block.specs.TestLaws.{never}
-use Rattle.block_reading.specs.Steps.{form_refusal, is_lit, is_plain}
-use Rattle.block_reading.specs.FormLaws.{form_by, is_lit_lem, is_plain_lem}
+use Rattle.block_reading.specs.Steps.{is_plain}
+use Rattle.block_reading.specs.FormLaws.{is_plain_lem}
 
--- the refusal and the answer by the tests: of the right length, all zero, well formed
+-- the answer for a block of 328 words, by its form
+abbrev read_as : BlockForm → Lighting → BlockAnswer
+read_as Off l = block_answer 0 off
+read_as NotWellFormed l = block_answer 7 off
+read_as NanFree l = block_answer 0 (on l)
+read_as WithNan l = block_answer 0 (on l)
 
-abbrev refusal_by : Bool → Bool → Bool → ℕ
-refusal_by sized zero formed = cond sized 0 6 else cond (zero || formed) 0 7
+pub wrong_length : (b : List ℕ) → (length b ≡ 328 → ⊥) → block_answer 6 off ≡ block_read b
+unfolding block_read read_refusal block_refusal
+wrong_length b n = rw (ne_eqb (length b) 328 n) refl
 
-abbrev reads_by : Bool → Bool → Bool → Lighting → BlockAnswer
-reads_by sized zero formed l =
-    block_answer (refusal_by sized zero formed) (cond (eqb (refusal_by sized zero formed) 0) (cond zero off (on l)) off)
+by_form : (b : List ℕ) → length b ≡ 328 → read_as (block_form b) (block_lighting (words b)) ≡ block_read b
+unfolding block_form form_of block_read read_refusal block_refusal words_refusal block_reading
+by_form b e = rw (eq-eqb (length b) 328 e) (go (all_zero (words b)) (well_formed (words b)) (nan_free (words b)))
+  where
+    go : (z g n : Bool) → read_as (cond z Off (cond g (cond n NanFree WithNan) NotWellFormed)) (block_lighting (words b))
+        ≡ block_answer (cond (z || g) 0 7) (cond (eqb (cond (z || g) 0 7) 0) (cond z off (on (block_lighting (words b)))) off)
+    go true g n = refl
+    go false true true = refl
+    go false true false = refl
+    go false false n = refl
 
-module _ (b : List ℕ) (f : BlockForm) (form : f ≡ block_form b) (lit : Bool) (told : lit ≡ is_lit f) where
-  -- what reading a lighting asks for
-  pub can_read : lit ≡ true → (p : Bool) → p ≡ is_plain f → (length b ≡ 328) × (p ≡ true → nan_free (words b) ≡ true)
-  can_read h p e = ((is_lit_lem b (rw form at (sym told ∙ h))).sized, λ k. is_plain_lem b (rw form at (sym e ∙ k)))
+-- with no bytes the words are the block's own
+module _ (b : List ℕ) (f g : BlockForm) (form : f ≡ block_form (given b [])) (told : f ≡ g) where
+  form_told : block_form b ≡ g
+  form_told = ap block_form (sym (given-words b [] refl)) ∙ sym form ∙ told
 
-  module _ (number : ℕ) (refused : number ≡ form_refusal f (length b)) (l : Lighting) where
-    pub read-lit : lit ≡ true → l ≡ block_lighting (words b) → block_answer number (on l) ≡ block_read b
-    unfolding is_lit form_refusal block_form form_of block_read read_refusal block_refusal words_refusal block_reading
-    read-lit h p =
-        rw (refused, form, p) (go (eqb (length b) 328) (all_zero (words b)) (well_formed (words b)) (nan_free (words b)) refl (rw form at (sym told ∙ h)))
-      where
-        go : (x z g n : Bool) → eqb (length b) 328 ≡ x → is_lit (form_by x z g n) ≡ true
-            → block_answer (form_refusal (form_by x z g n) (length b)) (on (block_lighting (words b))) ≡ reads_by x z g (block_lighting (words b))
-        go true true g n e k = never k
-        go true false true true e k = refl
-        go true false true false e k = refl
-        go true false false n e k = never k
-        go false z g n e k = never k
+  pub read-dark : length b ≡ 328 → read_as g (block_lighting (words b)) ≡ block_read b
+  read-dark e = ap (λ (x : BlockForm). read_as x (block_lighting (words b))) (sym form_told) ∙ by_form b e
 
-    pub read_dark : lit ≡ false → l ≡ blank_lighting → block_answer number (record { on = false; lighting = l }) ≡ block_read b
-    unfolding is_lit form_refusal block_form form_of block_read read_refusal block_refusal words_refusal block_reading
-    read_dark h p =
-        rw (refused, form, p) (go (eqb (length b) 328) (all_zero (words b)) (well_formed (words b)) (nan_free (words b)) refl (rw form at (sym told ∙ h)))
-      where
-        go : (x z g n : Bool) → eqb (length b) 328 ≡ x → is_lit (form_by x z g n) ≡ false
-            → block_answer (form_refusal (form_by x z g n) (length b)) off ≡ reads_by x z g (block_lighting (words b))
-        go true true g n e k = refl
-        go true false true true e k = never (sym k)
-        go true false true false e k = never (sym k)
-        go true false false n e k = rw e refl
-        go false z g n e k = rw e refl
+  pub read-lit : (l : Lighting) → length b ≡ 328 → read_as g (block_lighting (words b)) ≡ block_answer 0 (on (block_lighting (words b))) → l ≡ block_lighting (words (given b []))
+      → block_answer 0 (on l) ≡ block_read b
+  read-lit l e k p =
+      ap (λ (x : Lighting). block_answer 0 (on x)) (p ∙ ap (λ (x : List ℕ). block_lighting (words x)) (given-words b [] refl)) ∙ sym k ∙ read-dark e
+
+  pub plain : is_plain g ≡ true → nan_free (words (given b [])) ≡ true
+  plain k = is_plain_lem (given b []) (ap is_plain (sym form ∙ told) ∙ k)

@@ -1,6 +1,6 @@
 -- What the code computes step by step; nobody has to trust it: the contracts of `lighting_with` and `read_block` tie it to Block's `block_lighting_with` and
 -- `block_read`, and FormLaws say what a form means. Definitions only.
-use Rattle.std.specs.Prelude.{ℕ, Bool, true, false, cond, eqb}
+use Rattle.std.specs.Prelude.{ℕ, Bool, true, false, eqb}
 use Rattle.lighting.specs.declared.TableLookups.{TableLookups}
 use Rattle.block.specs.declared.BlockForm.{BlockForm}
 use Rattle.block.specs.declared.BlockForm.TheVariants.{Off, NotWellFormed, NanFree, WithNan}
@@ -51,10 +51,3 @@ is_plain Off = false
 is_plain NotWellFormed = false
 is_plain NanFree = true
 is_plain WithNan = false
-
--- the refusal of a block of n words, by its form: one that is not well formed is first of a wrong length
-unfoldable pub form_refusal : BlockForm → ℕ → ℕ
-form_refusal Off n = 0
-form_refusal NotWellFormed n = cond (eqb n 328) 7 6
-form_refusal NanFree n = 0
-form_refusal WithNan n = 0

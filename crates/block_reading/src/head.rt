@@ -7,9 +7,7 @@ ghost use Rattle.block_reading.specs.Steps.{head_options, head_lookups};
 
 use crate::light::plain_vector;
 use binary32::float_of;
-use lighting::{
-    Bump, Light, Lighting, Lookup, OptionalLookup, OptionalShadow, Shadow, TableLookups,
-};
+use lighting::{Bump, Light, Lighting, Lookup, Shadow, TableLookups};
 use sources::word;
 
 // The words before the lookups but the count.
@@ -17,7 +15,7 @@ use sources::word;
 struct Options {
     config: u32,
     bump: Bump,
-    shadow: OptionalShadow,
+    shadow: Option<Shadow>,
     fresnel_primary: bool,
     fresnel_secondary: bool,
     clamp_highlights: bool,
@@ -37,11 +35,11 @@ fn bump_of(n: u32) -> Bump
     }
 }
 
-fn shadow_of(n: u32) -> OptionalShadow
+fn shadow_of(n: u32) -> Option<Shadow>
     ensures { result ≡ block_shadow n }
 {
     if n % 16 == 1 {
-        OptionalShadow::Shadowed(Shadow {
+        Some(Shadow {
             unit: (n / 16 % 16) as usize,
             invert: n / 256 % 2 == 1,
             primary: n / 512 % 2 == 1,
@@ -49,7 +47,7 @@ fn shadow_of(n: u32) -> OptionalShadow
             alpha: n / 2048 % 2 == 1,
         })
     } else {
-        OptionalShadow::Unshadowed
+        None
     }
 }
 
@@ -65,14 +63,14 @@ fn lookup_of(block: &[u32], bytes: &[u8], at: usize) -> Lookup
     }
 }
 
-fn optional_lookup_of(block: &[u32], bytes: &[u8], at: usize) -> OptionalLookup
+fn optional_lookup_of(block: &[u32], bytes: &[u8], at: usize) -> Option<Lookup>
     requires { (length (given block.now bytes.now) ≡ 328) × (at + 4 ≤ 328) }
     ensures { result ≡ block_optional_lookup (from (words (given block.now bytes.now)) at) }
 {
     if word(block, bytes, at) == 1 {
-        OptionalLookup::Present(lookup_of(block, bytes, at))
+        Some(lookup_of(block, bytes, at))
     } else {
-        OptionalLookup::Missing
+        None
     }
 }
 
@@ -123,34 +121,25 @@ pub fn lighting_with(block: &[u32], bytes: &[u8], plain: bool, lights: [Light; 8
     ensures { result ≡ block_lighting_with (words (given block.now bytes.now)) lights }
 {
     let options = options_of(block, bytes);
-    let bump = options.bump;
-    let shadow = options.shadow;
     let lookups = lookups_of(block, bytes);
-    let distribution0 = lookups.distribution0;
-    let distribution1 = lookups.distribution1;
-    let fresnel = lookups.fresnel;
-    let reflect_red = lookups.reflect_red;
-    let reflect_green = lookups.reflect_green;
-    let reflect_blue = lookups.reflect_blue;
-    let spotlight = lookups.spotlight;
     Lighting {
         lights,
         light_count: light_count(block, bytes),
         global_ambient: plain_vector(block, bytes, 36, plain),
         config: options.config,
-        distribution0,
-        distribution1,
-        fresnel,
-        reflect_red,
-        reflect_green,
-        reflect_blue,
-        spotlight,
+        distribution0: lookups.distribution0,
+        distribution1: lookups.distribution1,
+        fresnel: lookups.fresnel,
+        reflect_red: lookups.reflect_red,
+        reflect_green: lookups.reflect_green,
+        reflect_blue: lookups.reflect_blue,
+        spotlight: lookups.spotlight,
         fresnel_primary: options.fresnel_primary,
         fresnel_secondary: options.fresnel_secondary,
         clamp_highlights: options.clamp_highlights,
         needs_half: options.needs_half,
         needs_view: options.needs_view,
-        bump,
-        shadow,
+        bump: options.bump,
+        shadow: options.shadow,
     }
 }

@@ -7,34 +7,25 @@ pub mod light;
 
 ghost use Rattle.std.specs.Prelude.{◌≡◌, true, length};
 ghost use Rattle.sources.specs.Steps.{given};
-ghost use Rattle.refusals.specs.Refusals.{outcome_number};
 ghost use Rattle.block.specs.Block.{words, block_lights, block_lighting, block_read, answer_of};
 ghost use Rattle.block.specs.Steps.{nan_free};
-ghost use Rattle.block_reading.specs.Steps.{form_refusal, is_lit, is_plain};
+ghost use Rattle.block_reading.specs.Steps.{is_lit, is_plain};
 
 use crate::head::{light_count, lighting_with};
 use crate::light::light_of;
-use block::{BlockForm, BlockRead};
+use block::BlockForm;
 use block_check::form;
-use lighting::{Light, Lighting, OptionalLighting, Slot, blank_light, blank_lighting};
-use refusals::{Outcome, Refusal};
+use lighting::{Light, Lighting, Slot, blank_light};
+use refusals::Refusal;
 
 // The lights in their slots, blank beyond the count.
 fn lights_of(block: &[u32], bytes: &[u8], plain: bool) -> [Light; 8]
     requires { (length (given block.now bytes.now) ≡ 328) × (plain ≡ true → nan_free (words (given block.now bytes.now)) ≡ true) }
     ensures { result ≡ block_lights (words (given block.now bytes.now)) }
 {
-    let blank = blank_light();
-    let mut lights = [blank; 8];
-    let count = light_count(block, bytes);
-    let mut slot = Slot(0);
-    while slot.0 < 8 {
-        let at = slot.0;
-        if count <= at {
-            return lights;
-        }
-        lights[at] = light_of(block, bytes, slot, plain);
-        slot.0 += 1;
+    let mut lights = [blank_light(); 8];
+    for slot in 0..light_count(block, bytes).min(8) {
+        lights[slot] = light_of(block, bytes, Slot(slot), plain);
     }
     lights
 }
@@ -45,20 +36,15 @@ pub fn lighting_of(block: &[u32], bytes: &[u8], plain: bool) -> Lighting
     requires { (length (given block.now bytes.now) ≡ 328) × (plain ≡ true → nan_free (words (given block.now bytes.now)) ≡ true) }
     ensures { result ≡ block_lighting (words (given block.now bytes.now)) }
 {
-    let lights = lights_of(block, bytes, plain);
-    lighting_with(block, bytes, plain, lights)
+    lighting_with(block, bytes, plain, lights_of(block, bytes, plain))
 }
 
 // Whether a block of this form reads as a lighting.
+#[tactic(auto, unfolding(crate::specs::Steps::is_lit))]
 pub fn is_lit(form: BlockForm) -> bool
     ensures { result ≡ is_lit form }
 {
-    match form {
-        BlockForm::Off => false,
-        BlockForm::NotWellFormed => false,
-        BlockForm::NanFree => true,
-        BlockForm::WithNan => true,
-    }
+    matches!(form, BlockForm::NanFree | BlockForm::WithNan)
 }
 
 // Whether a block of this form reads as a lighting, and no word is a NaN's pattern.
@@ -66,46 +52,21 @@ pub fn is_lit(form: BlockForm) -> bool
 pub fn is_plain(form: BlockForm) -> bool
     ensures { result ≡ is_plain form }
 {
-    match form {
-        BlockForm::NanFree => true,
-        _ => false,
-    }
+    matches!(form, BlockForm::NanFree)
 }
 
-// The outcome for a block of `count` words, by its form: of a wrong length first.
-fn outcome_of(form: BlockForm, count: usize) -> Outcome
-    ensures { outcome_number result ≡ form_refusal form count }
-{
-    match form {
-        BlockForm::Off => Outcome::Done,
-        BlockForm::NotWellFormed => {
-            if count == 328 {
-                Outcome::Refused(Refusal::NotWellFormed)
-            } else {
-                Outcome::Refused(Refusal::WrongBlock)
-            }
-        }
-        BlockForm::NanFree => Outcome::Done,
-        BlockForm::WithNan => Outcome::Done,
-    }
-}
-
-// The lighting of a block, or off; a refused one is off too.
-pub fn read_block(block: &[u32]) -> BlockRead
+// The lighting of a block, or off.
+pub fn read_block(block: &[u32]) -> Result<Option<Lighting>, Refusal>
     ensures { answer_of result ≡ block_read block.now }
 {
-    let none = [0u8; 0];
-    let found = form(block, &none);
-    let outcome = outcome_of(found, block.len());
-    if is_lit(found) {
-        let lighting = lighting_of(block, &none, is_plain(found));
-        let reading = OptionalLighting { on: true, lighting };
-        return BlockRead { outcome, reading };
+    if block.len() != 328 {
+        return Err(Refusal::WrongBlock);
     }
-    let lighting = blank_lighting();
-    let reading = OptionalLighting {
-        on: false,
-        lighting,
-    };
-    BlockRead { outcome, reading }
+    let none = [0u8; 0];
+    match form(block, &none) {
+        BlockForm::Off => Ok(None),
+        BlockForm::NotWellFormed => Err(Refusal::NotWellFormed),
+        BlockForm::NanFree => Ok(Some(lighting_of(block, &none, true))),
+        BlockForm::WithNan => Ok(Some(lighting_of(block, &none, false))),
+    }
 }

@@ -39,16 +39,17 @@ pub(crate) fn plain_vector(block: &[u32], bytes: &[u8], at: usize, plain: bool) 
 }
 
 // The distance of the light whose words start at `at`.
-fn distance_of(block: &[u32], bytes: &[u8], at: usize) -> Distance
+fn distance_of(block: &[u32], bytes: &[u8], at: usize) -> Option<Distance>
     requires { (length (given block.now bytes.now) ≡ 328) × (at + 36 ≤ 328) }
     ensures { result ≡ block_distance (from (words (given block.now bytes.now)) at) }
 {
     if word(block, bytes, at + 32) / 16 % 2 == 1 {
-        let bias = float_of(word(block, bytes, at + 28));
-        let scale = float_of(word(block, bytes, at + 29));
-        Distance::Scaled(bias, scale)
+        Some(Distance {
+            bias: float_of(word(block, bytes, at + 28)),
+            scale: float_of(word(block, bytes, at + 29)),
+        })
     } else {
-        Distance::Without
+        None
     }
 }
 

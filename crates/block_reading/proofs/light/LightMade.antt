@@ -6,6 +6,7 @@ use mathlib.Core.Path.{◌≡◌, refl}
 use mathlib.Core.List.{List}
 use lib.Dec.{eqb}
 use lib.Ieee.{Float}
+use Rattle.std.specs.Prelude.{Option}
 use Rattle.lighting.specs.declared.LightNumber.{LightNumber}
 use Rattle.lighting.specs.declared.Distance.{Distance}
 use Rattle.lighting.specs.declared.Light.{Light}
@@ -22,7 +23,7 @@ vector_first w i = rw (add-zero i) refl
 abbrev pub numbered : ℕ → LightNumber
 numbered n = record { 0 = n }
 
-pub light_made : (v : ℕ → ℕ) (a b c d e f g : List Float) (h : Distance) (n : LightNumber) (k : ℕ) → a ≡ block_vector v 0
+pub light_made : (v : ℕ → ℕ) (a b c d e f g : List Float) (h : Option Distance) (n : LightNumber) (k : ℕ) → a ≡ block_vector v 0
     → b ≡ block_vector v 4
     → c ≡ block_vector v 8
     → d ≡ block_vector v 12

@@ -9,5 +9,4 @@ use Rattle.block_reading.proofs.lighting_of.Goals as goal
 pub returns : goal.returns
 unfolding block_lighting
 returns c =
-    let s = c.before.before.before.before in
-    c.lighting_with.ensures ∙ ap (λ (l : List Light). block_lighting_with (words (given s.args.block.now s.args.bytes.now)) l) c.lights_of-lights.ensures
+    c.lighting_with.ensures ∙ ap (λ (l : List Light). block_lighting_with (words (given c.args.block.now c.args.bytes.now)) l) c.lights_of.ensures

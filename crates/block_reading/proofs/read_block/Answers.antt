@@ -1,23 +1,29 @@
--- `block_reading::read_block` meets its contract: each answer is the one that the form and its test lead to. With no bytes the words are the
--- block's own.
-use Prim.Native.Nat.{ℕ}
-use mathlib.Core.Path.{refl, ap, ◌∙◌}
-use mathlib.Core.List.{List, []}
-use Rattle.sources.specs.Steps.{given}
+-- `block_reading::read_block` meets its contract: each answer is the one that the length and the form lead to.
+use Rattle.std.proofs.Common.{refl, ap, ◌∙◌, length, []}
 use Rattle.sources.specs.SourcesLaws.{given-words}
-use Rattle.block.specs.Block.{words, block_lighting}
-use Rattle.block.specs.Steps.{block_form}
-use Rattle.block_reading.proofs.ReadByForm.{can_read, read-lit, read_dark}
+use Rattle.block.specs.TestLaws.{never}
+use Rattle.block_reading.specs.Steps.{is_plain}
+use Rattle.block_reading.proofs.ReadByForm.{wrong_length, read-dark, read-lit, plain}
 use Rattle.block_reading.proofs.read_block.Goals as goal
 
-pub lighting_of-lighting-requires : goal.lighting_of-lighting-requires
-lighting_of-lighting-requires c = can_read (given c.args.block.now []) _ c.form-found.ensures _ c.is_lit.ensures c.if-is_lit.true _ c.is_plain.ensures
+pub returns-then-block-ne328 : goal.returns-then-block-ne328
+returns-then-block-ne328 c = wrong_length _ c.if-block-ne328.true
 
-pub returns-then-is_lit : goal.returns-then-is_lit
-returns-then-is_lit c =
-    let s = c.before.before.before.before.before.before.before.before.before in
-    read-lit _ _ (c.form-found.ensures ∙ ap block_form (given-words s.args.block.now [] refl)) _ c.is_lit.ensures _ c.outcome_of-outcome.ensures _ c.if-is_lit.true
-    (c.lighting_of-lighting.ensures ∙ ap (λ (l : List ℕ). block_lighting (words l)) (given-words s.args.block.now [] refl))
+pub returns-in-Off : goal.returns-in-Off
+returns-in-Off c = read-dark _ _ _ c.form.ensures c.in-Off.is c.if-block-ne328.false
 
-pub returns : goal.returns
-returns c = let s = c.before.before.before.before.before.before.before in read_dark _ _ (c.form-found.ensures ∙ ap block_form (given-words s.args.block.now [] refl)) _ c.is_lit.ensures _ c.outcome_of-outcome.ensures _ c.if-is_lit.false c.blank_lighting-lighting.ensures
+pub returns-in-NotWellFormed : goal.returns-in-NotWellFormed
+returns-in-NotWellFormed c = read-dark _ _ _ c.form.ensures c.in-NotWellFormed.is c.if-block-ne328.false
+
+pub lighting_of-requires : goal.lighting_of-requires
+unfolding is_plain
+lighting_of-requires c = (ap length (given-words c.args.block.now [] refl) ∙ c.if-block-ne328.false, λ k. plain _ _ _ c.form.ensures c.in-NanFree.is refl)
+
+pub returns-in-NanFree : goal.returns-in-NanFree
+returns-in-NanFree c = read-lit _ _ _ c.form.ensures c.in-NanFree.is _ c.if-block-ne328.false refl c.lighting_of.ensures
+
+pub lighting_of-requires-in-WithNan : goal.lighting_of-requires-in-WithNan
+lighting_of-requires-in-WithNan c = (ap length (given-words c.args.block.now [] refl) ∙ c.if-block-ne328.false, λ k. never k)
+
+pub returns-in-WithNan : goal.returns-in-WithNan
+returns-in-WithNan c = read-lit _ _ _ c.form.ensures c.in-WithNan.is _ c.if-block-ne328.false refl c.lighting_of-in-WithNan.ensures

@@ -6,8 +6,7 @@ use Rattle.block_reading.proofs.head.lighting_with.Goals as goal
 
 pub returns : goal.returns
 returns c =
-    let s = c.before.before.before.before.before.before.before in
-    lighting_made (words (given s.args.block.now s.args.bytes.now)) _ _ _ _ _
+    lighting_made (words (given c.args.block.now c.args.bytes.now)) _ _ _ _ _
     c.options_of-options.ensures
     c.lookups_of-lookups.ensures
     c.light_count.ensures
