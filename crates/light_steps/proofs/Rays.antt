@@ -5,6 +5,7 @@ use mathlib.Core.Path.{◌≡◌, refl, ap, ◌∙◌}
 use mathlib.Core.List.{List}
 use mathlib.Core.Bool.{Bool, true, false, ◌||◌}
 use lib.Ieee.{Float}
+use Rattle.std.specs.Prelude.{Option}
 use Rattle.lighting.specs.declared.Light.{Light}
 use Rattle.surface.specs.declared.Frame.{Frame}
 use Rattle.surface.specs.declared.Directions.{Directions}
@@ -31,7 +32,7 @@ pub distance_is : (tables : List ℕ) (light : Light) (view : List Float) (ray :
 distance_is tables light view ray d w e =
     e
     ∙ ap (λ (x : Ray). read_value tables (distance_reading_by light.distance light.number x.norm)) w
-    ∙ ap (λ (x : Reading). read_value tables x) (distance_by_lem light view)
+    ∙ ap (λ (x : Option Reading). read_value tables x) (distance_by_lem light view)
 
 pub unread_is : (sums : Sums) (light : Light) (normal vector : List Float) (frame : Frame) (needed : Bool) (v : Values) (settings : Settings) (last : Bool)
     → with_values sums light normal (unread_directions light vector frame needed) v settings last ≡ with_values sums light normal (directions_by vector frame needed) v settings last

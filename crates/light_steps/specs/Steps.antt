@@ -1,6 +1,6 @@
 -- What the code computes of one light, step by step: how much a surface faces it, the ray to it, where it reads the tables and what stands there, what its lookups
 -- make of that, its terms, and the sums with them. Nobody has to trust it: `shade_law` (ShadeLaws of shading) ties it to Shade. Definitions only.
-use Rattle.std.specs.Prelude.{ℕ, ◌+◌, ◌%◌, List, [], ◌∷◌, Bool, true, false, cond, ◌&&◌, ◌||◌, eqb, get_or, Float}
+use Rattle.std.specs.Prelude.{ℕ, ◌+◌, ◌%◌, List, [], ◌∷◌, Bool, cond, ◌&&◌, ◌||◌, eqb, get_or, Float, Option, None, Some, is_some}
 use Rattle.std.specs.Float.Ieee.{eq}
 use Rattle.binary32.specs.Binary32.{float0, float1, magnitude_of, max_of, min_of, clamp_of, unsigned_place_of, signed_place_of}
 use Rattle.binary32.specs.declared.Place.{Place}
@@ -11,16 +11,12 @@ use Rattle.lighting.specs.Lighting.{table_distribution0, table_distribution1, ta
 use Rattle.lighting.specs.declared.Light.{Light}
 use Rattle.lighting.specs.declared.LightNumber.{LightNumber}
 use Rattle.lighting.specs.declared.Lookup.{Lookup}
-use Rattle.lighting.specs.declared.OptionalLookup.{OptionalLookup}
-use Rattle.lighting.specs.declared.OptionalLookup.TheVariants.{Missing, Present}
 use Rattle.lighting.specs.declared.Distance.{Distance}
-use Rattle.lighting.specs.declared.Distance.TheVariants.{Without, Scaled}
 use Rattle.surface.specs.declared.Frame.{Frame}
 use Rattle.surface.specs.Steps.{unit_if, offset_norm, directions_by, directions_of}
 use Rattle.surface.specs.declared.Directions.{Directions}
 use Rattle.light_steps.specs.declared.types.LightingLookups.{LightingLookups}
 use Rattle.light_steps.specs.declared.types.Reading.{Reading}
-use Rattle.light_steps.specs.declared.types.Reading.TheVariants.{Unread, At}
 use Rattle.light_steps.specs.declared.types.Readings.{Readings}
 use Rattle.light_steps.specs.declared.types.EntryValues.{EntryValues}
 use Rattle.light_steps.specs.declared.types.Values.{Values}
@@ -81,34 +77,34 @@ unfoldable pub table_for : ℕ → LightNumber → ℕ
 table_for first number = first + number.0 % 8
 
 abbrev pub reading_at : ℕ → Place → Reading
-reading_at table place = At table place.entry place.delta
+reading_at table place = record { table = table; place = place }
 
 unfoldable pub reading_by : ℕ → Lookup → Bool → List Float → Reading
 reading_by table lookup twoSided inputs = reading_at table (place_of lookup.absolute twoSided (input_of lookup inputs))
 
-unfoldable pub reading_if : ℕ → OptionalLookup → Bool → List Float → Reading
-reading_if table Missing twoSided inputs = Unread
-reading_if table (Present lookup) twoSided inputs = reading_by table lookup twoSided inputs
+unfoldable pub reading_if : ℕ → Option Lookup → Bool → List Float → Option Reading
+reading_if table None twoSided inputs = None
+reading_if table (Some lookup) twoSided inputs = Some (reading_by table lookup twoSided inputs)
 
 -- ---- where a light's distance is read
 
 -- place 1 reads entry 255 with delta 1
-unfoldable pub distance_place : Float → Float → Float → Place
-distance_place bias scale norm = unsigned_place_of (clamp_of (scale ⊗ norm ⊕ bias) float0 float1)
+unfoldable pub distance_place : Distance → Float → Place
+distance_place distance norm = unsigned_place_of (clamp_of (distance.scale ⊗ norm ⊕ distance.bias) float0 float1)
 
-unfoldable pub distance_reading_by : Distance → LightNumber → Float → Reading
-distance_reading_by Without number norm = Unread
-distance_reading_by (Scaled bias scale) number norm = reading_at (table_for table_distance number) (distance_place bias scale norm)
+unfoldable pub distance_reading_by : Option Distance → LightNumber → Float → Option Reading
+distance_reading_by None number norm = None
+distance_reading_by (Some distance) number norm = Some (reading_at (table_for table_distance number) (distance_place distance norm))
 
 -- ---- where a light reads its lookups
 
-unfoldable pub spot_reading : Light → Lookup → List Float → Reading
+unfoldable pub spot_reading : Light → Lookup → List Float → Option Reading
 spot_reading light lookup inputs =
-    cond light.spotlight (reading_by (table_for table_spotlight light.number) lookup light.two_sided inputs) Unread
+    cond light.spotlight (Some (reading_by (table_for table_spotlight light.number) lookup light.two_sided inputs)) None
 
 -- only the last slot lit reads fresnel
-unfoldable pub fresnel_reading : Bool → OptionalLookup → Bool → List Float → Reading
-fresnel_reading last lookup twoSided inputs = cond last (reading_if table_fresnel lookup twoSided inputs) Unread
+unfoldable pub fresnel_reading : Bool → Option Lookup → Bool → List Float → Option Reading
+fresnel_reading last lookup twoSided inputs = cond last (reading_if table_fresnel lookup twoSided inputs) None
 
 unfoldable pub readings_by : LightingLookups → Light → List Float → Bool → Readings
 readings_by lookups light inputs last =
@@ -129,9 +125,12 @@ readings_of lookups frame directions light last =
 
 -- ---- what the entries give there
 
-unfoldable pub read_value : List ℕ → Reading → Float
-read_value tables Unread = float1
-read_value tables (At table entry delta) = table_lookup tables table entry delta
+abbrev pub at_place : List ℕ → ℕ → Place → Float
+at_place tables table place = table_lookup tables table place.entry place.delta
+
+unfoldable pub read_value : List ℕ → Option Reading → Float
+read_value tables None = float1
+read_value tables (Some reading) = at_place tables reading.table reading.place
 
 unfoldable pub read_all : List ℕ → Readings → Float → EntryValues
 read_all tables readings distance =
@@ -148,27 +147,27 @@ read_all tables readings distance =
 
 -- ---- whether any table is read
 
-unfoldable pub present : OptionalLookup → Bool
-present Missing = false
-present (Present lookup) = true
-
 -- whether a light reads any table but its distance table
 unfoldable pub reads_tables : LightingLookups → Light → Bool
 reads_tables lookups light =
-    (((present lookups.distribution0 || present lookups.distribution1) || (present lookups.fresnel || present lookups.reflect_red))
-    || (present lookups.reflect_green || present lookups.reflect_blue))
+    is_some lookups.distribution0
+    || is_some lookups.distribution1
+    || is_some lookups.fresnel
+    || is_some lookups.reflect_red
+    || is_some lookups.reflect_green
+    || is_some lookups.reflect_blue
     || light.spotlight
 
 -- ---- what the lookups make of the entries
 
-unfoldable pub scaled_if : OptionalLookup → Float → Float → Float
-scaled_if Missing x missing = missing
-scaled_if (Present lookup) x missing = lookup.scale ⊗ x
+unfoldable pub scaled_if : Option Lookup → Float → Float → Float
+scaled_if None x missing = missing
+scaled_if (Some lookup) x missing = lookup.scale ⊗ x
 
 unfoldable pub spot_scaled : Light → Lookup → Float → Float
 spot_scaled light lookup x = cond light.spotlight (lookup.scale ⊗ x) float1
 
-unfoldable pub fresnel_scaled : Bool → OptionalLookup → Float → Float
+unfoldable pub fresnel_scaled : Bool → Option Lookup → Float → Float
 fresnel_scaled last lookup x = cond last (scaled_if lookup x float1) float1
 
 unfoldable pub values_from : LightingLookups → Light → EntryValues → Bool → Values
@@ -201,16 +200,13 @@ unread distance =
 
 -- ---- the same values in one go: reading, entry and scale together (ReadingsLaws)
 
-abbrev pub at_place : List ℕ → ℕ → Place → Float
-at_place tables table place = table_lookup tables table place.entry place.delta
-
 unfoldable pub lookup_value : List ℕ → ℕ → Lookup → Bool → List Float → Float
 lookup_value tables table lookup twoSided inputs =
     lookup.scale ⊗ at_place tables table (place_of lookup.absolute twoSided (input_of lookup inputs))
 
-unfoldable pub value_if : List ℕ → ℕ → OptionalLookup → Bool → List Float → Float → Float
-value_if tables table Missing twoSided inputs missing = missing
-value_if tables table (Present lookup) twoSided inputs missing = lookup_value tables table lookup twoSided inputs
+unfoldable pub value_if : List ℕ → ℕ → Option Lookup → Bool → List Float → Float → Float
+value_if tables table None twoSided inputs missing = missing
+value_if tables table (Some lookup) twoSided inputs missing = lookup_value tables table lookup twoSided inputs
 
 -- by the light's number
 abbrev pub spotlight_table : LightNumber → ℕ
@@ -221,22 +217,22 @@ spot_value tables light lookup inputs =
     cond light.spotlight (lookup_value tables (spotlight_table light.number) lookup light.two_sided inputs) float1
 
 -- only the last slot lit reads fresnel
-unfoldable pub fresnel_value : List ℕ → Bool → OptionalLookup → Bool → List Float → Float
+unfoldable pub fresnel_value : List ℕ → Bool → Option Lookup → Bool → List Float → Float
 fresnel_value tables last lookup twoSided inputs = cond last (value_if tables table_fresnel lookup twoSided inputs float1) float1
 
 -- by the light's number
 abbrev pub distance_table : LightNumber → ℕ
 distance_table number = table_distance + number.0
 
-unfoldable pub distance_by : List ℕ → Distance → LightNumber → Float → Float
-distance_by tables Without number norm = float1
-distance_by tables (Scaled bias scale) number norm = at_place tables (distance_table number) (distance_place bias scale norm)
+unfoldable pub distance_by : List ℕ → Option Distance → LightNumber → Float → Float
+distance_by tables None number norm = float1
+distance_by tables (Some distance) number norm = at_place tables (distance_table number) (distance_place distance norm)
 
 unfoldable pub distance_value : List ℕ → Light → List Float → Float
 distance_value tables light view = distance_by tables light.distance light.number (offset_norm view light.position)
 
 -- where it is read
-unfoldable pub distance_reading : Light → List Float → Reading
+unfoldable pub distance_reading : Light → List Float → Option Reading
 distance_reading light view = distance_reading_by light.distance light.number (offset_norm view light.position)
 
 -- green and blue fall back to red
@@ -345,4 +341,4 @@ unread_directions light vector frame needed =
 unfoldable pub step_of : List ℕ → LightingLookups → Frame → Settings → Bool → Light → Sums → Sums
 step_of tables lookups frame settings last light sums =
     let directions = directions_of light frame lookups.needs_half in
-    with_values sums light frame.normal directions (values_of tables lookups frame directions light last) settings (last && present lookups.fresnel)
+    with_values sums light frame.normal directions (values_of tables lookups frame directions light last) settings (last && is_some lookups.fresnel)

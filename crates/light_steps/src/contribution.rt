@@ -5,10 +5,10 @@ ghost use Rattle.light_steps.specs.Steps.{unread, shadow_for, added_of, summed_o
 use crate::facing::facing_of;
 use crate::types::{Settings, Sums, Values};
 use crate::{terms, values};
-use flags::{both, either};
 use lighting::Light;
 use surface::Directions;
 
+#[tactic(auto, unfolding(crate::specs::Steps::shadow_for))]
 fn shadow_for(shadowed: bool, shadow: [f32; 4]) -> [f32; 3]
     ensures { result ≡ shadow_for shadowed shadow }
 {
@@ -19,6 +19,7 @@ fn shadow_for(shadowed: bool, shadow: [f32; 4]) -> [f32; 3]
     }
 }
 
+#[tactic(auto, unfolding(crate::specs::Steps::added_of))]
 fn added(sum: [f32; 4], terms: [f32; 3], shadow: [f32; 3], alpha: f32) -> [f32; 4]
     ensures { result ≡ added_of sum terms shadow alpha }
 {
@@ -39,6 +40,7 @@ fn alpha_after(applied: bool, before: f32, fresnel: f32) -> f32
 }
 
 // A sum with a light's terms. Fresnel takes the place of alpha where it is applied.
+#[tactic(auto, unfolding(crate::specs::Steps::summed_of))]
 fn summed(
     sum: [f32; 4],
     terms: [f32; 3],
@@ -66,33 +68,44 @@ fn with_terms(
 ) -> Sums
     ensures { result ≡ with_terms sums diffuse specular shadowed settings applied fresnel }
 {
-    let shadow = settings.shadow;
-    let diffuse_sum = sums.diffuse;
-    let specular_sum = sums.specular;
-    let primary = both(settings.shadow_primary, shadowed);
-    let secondary = both(settings.shadow_secondary, shadowed);
-    let sets_primary = both(applied, settings.fresnel_primary);
-    let sets_secondary = both(applied, settings.fresnel_secondary);
-    if either(primary, secondary) {
+    let primary = settings.shadow_primary && shadowed;
+    let secondary = settings.shadow_secondary && shadowed;
+    let sets_primary = applied && settings.fresnel_primary;
+    let sets_secondary = applied && settings.fresnel_secondary;
+    if primary || secondary {
         return Sums {
-            diffuse: summed(diffuse_sum, diffuse, primary, shadow, sets_primary, fresnel),
+            diffuse: summed(
+                sums.diffuse,
+                diffuse,
+                primary,
+                settings.shadow,
+                sets_primary,
+                fresnel,
+            ),
             specular: summed(
-                specular_sum,
+                sums.specular,
                 specular,
                 secondary,
-                shadow,
+                settings.shadow,
                 sets_secondary,
                 fresnel,
             ),
         };
     }
     Sums {
-        diffuse: summed(diffuse_sum, diffuse, false, shadow, sets_primary, fresnel),
+        diffuse: summed(
+            sums.diffuse,
+            diffuse,
+            false,
+            settings.shadow,
+            sets_primary,
+            fresnel,
+        ),
         specular: summed(
-            specular_sum,
+            sums.specular,
             specular,
             false,
-            shadow,
+            settings.shadow,
             sets_secondary,
             fresnel,
         ),
@@ -100,6 +113,7 @@ fn with_terms(
 }
 
 // Both sums with a light's contribution, from its values.
+#[tactic(auto, unfolding(crate::specs::Steps::with_values, crate::specs::Steps::with_values_by))]
 pub(crate) fn with_values(
     sums: Sums,
     light: Light,
@@ -111,11 +125,18 @@ pub(crate) fn with_values(
 ) -> Sums
     ensures { result ≡ with_values sums light normal directions values settings applied }
 {
-    let light_vector = directions.light_vector;
-    let half = directions.half;
-    let facing = facing_of(light.two_sided, vectors::dot(light_vector, normal));
+    let facing = facing_of(
+        light.two_sided,
+        vectors::dot(directions.light_vector, normal),
+    );
     let diffuse = terms::diffuse(light, facing, values.distance, values.spot);
-    let specular = terms::specular(light, half, values, settings.clamp_highlights, facing);
+    let specular = terms::specular(
+        light,
+        directions.half,
+        values,
+        settings.clamp_highlights,
+        facing,
+    );
     with_terms(
         sums,
         diffuse,
@@ -129,6 +150,7 @@ pub(crate) fn with_values(
 
 // The same for a light that reads no table but its distance table: every other value is 1 and fresnel is not applied, and the compiler leaves the products and
 // the alphas out. It would leave them in if this called `with_values`, which is too long to be inlined for two callers: so its lines stand twice.
+#[tactic(auto, unfolding(crate::specs::Steps::with_values, crate::specs::Steps::with_values_by))]
 pub(crate) fn with_unread(
     sums: Sums,
     light: Light,
@@ -140,11 +162,18 @@ pub(crate) fn with_unread(
     ensures { result ≡ with_values sums light normal directions (unread distance) settings false }
 {
     let values = values::unread(distance);
-    let light_vector = directions.light_vector;
-    let half = directions.half;
-    let facing = facing_of(light.two_sided, vectors::dot(light_vector, normal));
+    let facing = facing_of(
+        light.two_sided,
+        vectors::dot(directions.light_vector, normal),
+    );
     let diffuse = terms::diffuse(light, facing, values.distance, values.spot);
-    let specular = terms::specular(light, half, values, settings.clamp_highlights, facing);
+    let specular = terms::specular(
+        light,
+        directions.half,
+        values,
+        settings.clamp_highlights,
+        facing,
+    );
     with_terms(
         sums,
         diffuse,

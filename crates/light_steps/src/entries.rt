@@ -1,17 +1,19 @@
 // What the tables give where a light reads them. They come as words or as bytes, and only the fetching of an entry knows which.
 ghost use Rattle.std.specs.Prelude.{◌≡◌, length};
 ghost use Rattle.sources.specs.Steps.{given};
-ghost use Rattle.tables.specs.Tables.{table_lookup};
-ghost use Rattle.light_steps.specs.Steps.{read_value, read_all};
+ghost use Rattle.light_steps.specs.Steps.{at_place, read_value, read_all};
 
 use crate::types::{EntryValues, Reading, Readings};
+use binary32::Place;
 
-// What a table gives at an entry.
-fn fetch(tables: &[u32], bytes: &[u8], table: u32, entry: u8, delta: f32) -> f32
+// What a table gives at a place.
+#[tactic(auto, unfolding(tables::specs::Tables::table_lookup))]
+fn fetch(tables: &[u32], bytes: &[u8], reading: Reading) -> f32
     requires { length (given tables.now bytes.now) ≡ 12288 }
-    ensures { result ≡ table_lookup (given tables.now bytes.now) table entry delta }
+    ensures { result ≡ at_place (given tables.now bytes.now) reading.table reading.place }
 {
-    let at = 2 * (256 * table as usize + entry as usize);
+    let Place { entry, delta } = reading.place;
+    let at = 2 * (256 * reading.table as usize + entry as usize);
     if at < 12288 {
         let value = sources::word(tables, bytes, at);
         let step = sources::word(tables, bytes, at + 1);
@@ -22,17 +24,19 @@ fn fetch(tables: &[u32], bytes: &[u8], table: u32, entry: u8, delta: f32) -> f32
 }
 
 // Asks: tables of 12,288 words, which the caller has counted once for all its reads.
-pub(crate) fn read(tables: &[u32], bytes: &[u8], reading: Reading) -> f32
+#[tactic(auto, unfolding(crate::specs::Steps::read_value))]
+pub(crate) fn read(tables: &[u32], bytes: &[u8], reading: Option<Reading>) -> f32
     requires { length (given tables.now bytes.now) ≡ 12288 }
     ensures { result ≡ read_value (given tables.now bytes.now) reading }
 {
     match reading {
-        Reading::Unread => 1.0,
-        Reading::At(table, entry, delta) => fetch(tables, bytes, table, entry, delta),
+        None => 1.0,
+        Some(reading) => fetch(tables, bytes, reading),
     }
 }
 
 // Asks: as `read`.
+#[tactic(auto, unfolding(crate::specs::Steps::read_all))]
 pub(crate) fn read_all(
     tables: &[u32],
     bytes: &[u8],
@@ -42,21 +46,14 @@ pub(crate) fn read_all(
     requires { length (given tables.now bytes.now) ≡ 12288 }
     ensures { result ≡ read_all (given tables.now bytes.now) readings distance }
 {
-    let spot = readings.spot;
-    let distribution0 = readings.distribution0;
-    let red = readings.red;
-    let green = readings.green;
-    let blue = readings.blue;
-    let distribution1 = readings.distribution1;
-    let fresnel = readings.fresnel;
     EntryValues {
         distance,
-        spot: read(tables, bytes, spot),
-        distribution0: read(tables, bytes, distribution0),
-        red: read(tables, bytes, red),
-        green: read(tables, bytes, green),
-        blue: read(tables, bytes, blue),
-        distribution1: read(tables, bytes, distribution1),
-        fresnel: read(tables, bytes, fresnel),
+        spot: read(tables, bytes, readings.spot),
+        distribution0: read(tables, bytes, readings.distribution0),
+        red: read(tables, bytes, readings.red),
+        green: read(tables, bytes, readings.green),
+        blue: read(tables, bytes, readings.blue),
+        distribution1: read(tables, bytes, readings.distribution1),
+        fresnel: read(tables, bytes, readings.fresnel),
     }
 }

@@ -4,6 +4,7 @@ ghost use Rattle.light_steps.specs.Steps.{along_tangent, inputs_of};
 
 use surface::{Directions, Frame};
 
+#[tactic(auto, unfolding(crate::specs::Steps::along_tangent))]
 fn along_tangent(config: u32, normal: [f32; 3], tangent: [f32; 3], half: [f32; 3]) -> f32
     ensures { result ≡ along_tangent config normal tangent half }
 {
@@ -15,6 +16,7 @@ fn along_tangent(config: u32, normal: [f32; 3], tangent: [f32; 3], half: [f32; 3
     }
 }
 
+#[tactic(auto, unfolding(crate::specs::Steps::inputs_by, crate::specs::Steps::inputs_of))]
 pub(crate) fn inputs_of(
     config: u32,
     frame: Frame,
@@ -24,19 +26,14 @@ pub(crate) fn inputs_of(
 ) -> [f32; 8]
     ensures { result ≡ inputs_of config frame directions needed spot }
 {
-    let normal = frame.normal;
-    let tangent = frame.tangent;
-    let norm_view = frame.norm_view;
-    let light_vector = directions.light_vector;
-    let half = directions.half;
-    let half_unit = surface::unit_if(needed, half);
+    let half_unit = surface::unit_if(needed, directions.half);
     [
-        vectors::dot(normal, half_unit),
-        vectors::dot(norm_view, half_unit),
-        vectors::dot(normal, norm_view),
-        vectors::dot(light_vector, normal),
-        vectors::dot(light_vector, spot),
-        along_tangent(config, normal, tangent, half_unit),
+        vectors::dot(frame.normal, half_unit),
+        vectors::dot(frame.norm_view, half_unit),
+        vectors::dot(frame.normal, frame.norm_view),
+        vectors::dot(directions.light_vector, frame.normal),
+        vectors::dot(directions.light_vector, spot),
+        along_tangent(config, frame.normal, frame.tangent, half_unit),
         0.0,
         0.0,
     ]

@@ -51,10 +51,11 @@ fn values_of(
 
 // The directions of a light without tables, of which only a geometric factor reads the half vector: made in that branch, it is worked out for such a light
 // alone.
+#[tactic(auto, unfolding(crate::specs::Steps::unread_directions))]
 fn unread_directions(light: Light, vector: [f32; 3], frame: Frame, needed: bool) -> Directions
     ensures { result ≡ unread_directions light vector frame needed }
 {
-    if flags::either(light.geometric0, light.geometric1) {
+    if light.geometric0 || light.geometric1 {
         surface::light::directions_of(vector, frame, needed)
     } else {
         Directions {
@@ -79,21 +80,25 @@ pub fn step(
     requires { (length (given tables.now bytes.now) ≡ 12288) × (light.number.0 < 8) }
     ensures { result ≡ step_of (given tables.now bytes.now) lookups frame settings last light sums }
 {
-    let normal = frame.normal;
-    let view = frame.view;
-    let ray = surface::light::ray_to(light, view);
-    let vector = ray.vector;
+    let ray = surface::light::ray_to(light, frame.view);
     let distance = distance_of(tables, bytes, light, ray.norm);
     if values::reads_tables(lookups, light) {
-        let directions = surface::light::directions_of(vector, frame, lookups.needs_half);
-        let fresnel = lookups.fresnel;
-        let applied = flags::both(last, values::present(fresnel));
+        let directions = surface::light::directions_of(ray.vector, frame, lookups.needs_half);
+        let applied = last && lookups.fresnel.is_some();
         let values = values_of(
             tables, bytes, lookups, frame, directions, distance, light, last,
         );
-        contribution::with_values(sums, light, normal, directions, values, settings, applied)
+        contribution::with_values(
+            sums,
+            light,
+            frame.normal,
+            directions,
+            values,
+            settings,
+            applied,
+        )
     } else {
-        let directions = unread_directions(light, vector, frame, lookups.needs_half);
-        contribution::with_unread(sums, light, normal, directions, distance, settings)
+        let directions = unread_directions(light, ray.vector, frame, lookups.needs_half);
+        contribution::with_unread(sums, light, frame.normal, directions, distance, settings)
     }
 }

@@ -5,8 +5,9 @@ ghost use Rattle.light_steps.specs.Steps.{place_of, input_of, table_for, reading
 use crate::facing::facing_of;
 use crate::types::Reading;
 use binary32::Place;
-use lighting::{LightNumber, Lookup, OptionalLookup};
+use lighting::{LightNumber, Lookup};
 
+#[tactic(auto, unfolding(crate::specs::Steps::input_of))]
 fn input_of(lookup: Lookup, inputs: [f32; 8]) -> f32
     ensures { result ≡ input_of lookup inputs }
 {
@@ -14,6 +15,7 @@ fn input_of(lookup: Lookup, inputs: [f32; 8]) -> f32
     if input < 8 { inputs[input] } else { 0.0 }
 }
 
+#[tactic(auto, unfolding(crate::specs::Steps::place_of))]
 fn place_of(absolute: bool, twosided: bool, x: f32) -> Place
     ensures { result ≡ place_of absolute twosided x }
 {
@@ -25,6 +27,7 @@ fn place_of(absolute: bool, twosided: bool, x: f32) -> Place
 }
 
 // The table of a light's number, of eight tables from `first` on.
+#[tactic(auto, unfolding(crate::specs::Steps::table_for))]
 pub(crate) fn table_for(first: u32, number: LightNumber) -> u32
     requires { first ≤ 16 }
     ensures { result ≡ table_for first number }
@@ -32,23 +35,24 @@ pub(crate) fn table_for(first: u32, number: LightNumber) -> u32
     first + (number.0 % 8) as u32
 }
 
+#[tactic(auto, unfolding(crate::specs::Steps::reading_by))]
 pub(crate) fn reading_by(table: u32, lookup: Lookup, twosided: bool, inputs: [f32; 8]) -> Reading
     ensures { result ≡ reading_by table lookup twosided inputs }
 {
-    let place = place_of(lookup.absolute, twosided, input_of(lookup, inputs));
-    Reading::At(table, place.entry, place.delta)
+    Reading {
+        table,
+        place: place_of(lookup.absolute, twosided, input_of(lookup, inputs)),
+    }
 }
 
+#[tactic(auto, unfolding(crate::specs::Steps::reading_if))]
 pub(crate) fn reading_if(
     table: u32,
-    lookup: OptionalLookup,
+    lookup: Option<Lookup>,
     twosided: bool,
     inputs: [f32; 8],
-) -> Reading
+) -> Option<Reading>
     ensures { result ≡ reading_if table lookup twosided inputs }
 {
-    match lookup {
-        OptionalLookup::Missing => Reading::Unread,
-        OptionalLookup::Present(k) => reading_by(table, k, twosided, inputs),
-    }
+    Some(reading_by(table, lookup?, twosided, inputs))
 }

@@ -8,58 +8,55 @@ use crate::types::{LightingLookups, Reading, Readings};
 use lighting::tables::{
     DISTRIBUTION0, DISTRIBUTION1, FRESNEL, REFLECT_BLUE, REFLECT_GREEN, REFLECT_RED, SPOTLIGHT,
 };
-use lighting::{Light, Lookup, OptionalLookup};
+use lighting::{Light, Lookup};
 use surface::{Directions, Frame};
 
-fn spot_reading(light: Light, lookup: Lookup, inputs: [f32; 8]) -> Reading
+#[tactic(auto, unfolding(crate::specs::Steps::spot_reading))]
+fn spot_reading(light: Light, lookup: Lookup, inputs: [f32; 8]) -> Option<Reading>
     ensures { result ≡ spot_reading light lookup inputs }
 {
-    let number = light.number;
     if light.spotlight {
-        reading_by(
-            table_for(SPOTLIGHT, number),
-            lookup,
-            light.two_sided,
-            inputs,
-        )
+        let table = table_for(SPOTLIGHT, light.number);
+        Some(reading_by(table, lookup, light.two_sided, inputs))
     } else {
-        Reading::Unread
+        None
     }
 }
 
 // Only the last slot lit reads fresnel.
-fn fresnel_reading(last: bool, lookup: OptionalLookup, twosided: bool, inputs: [f32; 8]) -> Reading
+#[tactic(auto, unfolding(crate::specs::Steps::fresnel_reading))]
+fn fresnel_reading(
+    last: bool,
+    lookup: Option<Lookup>,
+    twosided: bool,
+    inputs: [f32; 8],
+) -> Option<Reading>
     ensures { result ≡ fresnel_reading last lookup twosided inputs }
 {
     if last {
         reading_if(FRESNEL, lookup, twosided, inputs)
     } else {
-        Reading::Unread
+        None
     }
 }
 
+#[tactic(auto, unfolding(crate::specs::Steps::readings_by))]
 fn readings_by(lookups: LightingLookups, light: Light, inputs: [f32; 8], last: bool) -> Readings
     ensures { result ≡ readings_by lookups light inputs last }
 {
-    let spotlight = lookups.spotlight;
-    let distribution0 = lookups.distribution0;
-    let distribution1 = lookups.distribution1;
-    let fresnel = lookups.fresnel;
-    let red = lookups.reflect_red;
-    let green = lookups.reflect_green;
-    let blue = lookups.reflect_blue;
     let twosided = light.two_sided;
     Readings {
-        spot: spot_reading(light, spotlight, inputs),
-        distribution0: reading_if(DISTRIBUTION0, distribution0, twosided, inputs),
-        red: reading_if(REFLECT_RED, red, twosided, inputs),
-        green: reading_if(REFLECT_GREEN, green, twosided, inputs),
-        blue: reading_if(REFLECT_BLUE, blue, twosided, inputs),
-        distribution1: reading_if(DISTRIBUTION1, distribution1, twosided, inputs),
-        fresnel: fresnel_reading(last, fresnel, twosided, inputs),
+        spot: spot_reading(light, lookups.spotlight, inputs),
+        distribution0: reading_if(DISTRIBUTION0, lookups.distribution0, twosided, inputs),
+        red: reading_if(REFLECT_RED, lookups.reflect_red, twosided, inputs),
+        green: reading_if(REFLECT_GREEN, lookups.reflect_green, twosided, inputs),
+        blue: reading_if(REFLECT_BLUE, lookups.reflect_blue, twosided, inputs),
+        distribution1: reading_if(DISTRIBUTION1, lookups.distribution1, twosided, inputs),
+        fresnel: fresnel_reading(last, lookups.fresnel, twosided, inputs),
     }
 }
 
+#[tactic(auto, unfolding(crate::specs::Steps::readings_of))]
 pub(crate) fn readings_of(
     lookups: LightingLookups,
     frame: Frame,
@@ -69,7 +66,12 @@ pub(crate) fn readings_of(
 ) -> Readings
     ensures { result ≡ readings_of lookups frame directions light last }
 {
-    let spot = light.spot;
-    let inputs = inputs::inputs_of(lookups.config, frame, directions, lookups.needs_half, spot);
+    let inputs = inputs::inputs_of(
+        lookups.config,
+        frame,
+        directions,
+        lookups.needs_half,
+        light.spot,
+    );
     readings_by(lookups, light, inputs, last)
 }

@@ -6,18 +6,18 @@ use crate::facing::{factor_by, highlights_of};
 use crate::types::Values;
 use lighting::Light;
 
+#[tactic(auto, unfolding(crate::specs::Steps::diffuse_of))]
 pub(crate) fn diffuse(light: Light, facing: f32, distance: f32, spot: f32) -> [f32; 3]
     ensures { result ≡ diffuse_of light facing distance spot }
 {
-    let diffuse = light.diffuse;
-    let ambient = light.ambient;
     [
-        (diffuse[0] * facing + ambient[0]) * distance * spot,
-        (diffuse[1] * facing + ambient[1]) * distance * spot,
-        (diffuse[2] * facing + ambient[2]) * distance * spot,
+        (light.diffuse[0] * facing + light.ambient[0]) * distance * spot,
+        (light.diffuse[1] * facing + light.ambient[1]) * distance * spot,
+        (light.diffuse[2] * facing + light.ambient[2]) * distance * spot,
     ]
 }
 
+#[tactic(auto, unfolding(crate::specs::Steps::times_if))]
 fn times_if(geometric: bool, v: [f32; 3], factor: f32) -> [f32; 3]
     ensures { result ≡ times_if geometric v factor }
 {
@@ -28,6 +28,7 @@ fn times_if(geometric: bool, v: [f32; 3], factor: f32) -> [f32; 3]
     }
 }
 
+#[tactic(auto, unfolding(crate::specs::Steps::reflected_of))]
 fn reflected(specular: [f32; 3], values: Values) -> [f32; 3]
     ensures { result ≡ reflected_of specular values }
 {
@@ -38,6 +39,7 @@ fn reflected(specular: [f32; 3], values: Values) -> [f32; 3]
     ]
 }
 
+#[tactic(auto, unfolding(crate::specs::Steps::specular_by))]
 fn specular_by(
     first: [f32; 3],
     second: [f32; 3],
@@ -55,6 +57,7 @@ fn specular_by(
 }
 
 // A light with neither geometric flag has a way of its own: so the compiler works out no factor and no product with it.
+#[tactic(auto, unfolding(crate::specs::Steps::specular_of, crate::specs::Steps::specular0_of, crate::specs::Steps::specular1_of, crate::specs::Steps::factor_of, crate::specs::Steps::times_if))]
 pub(crate) fn specular(
     light: Light,
     half: [f32; 3],
@@ -64,12 +67,10 @@ pub(crate) fn specular(
 ) -> [f32; 3]
     ensures { result ≡ specular_of light half values clamp facing }
 {
-    let specular0 = light.specular0;
-    let specular1 = light.specular1;
     let highlights = highlights_of(clamp, facing);
-    let specular0 = vectors::times(specular0, values.distribution0);
-    let specular1 = reflected(specular1, values);
-    if flags::either(light.geometric0, light.geometric1) {
+    let specular0 = vectors::times(light.specular0, values.distribution0);
+    let specular1 = reflected(light.specular1, values);
+    if light.geometric0 || light.geometric1 {
         let factor = factor_by(facing, vectors::dot(half, half));
         let specular0 = times_if(light.geometric0, specular0, factor);
         let specular1 = times_if(light.geometric1, specular1, factor);

@@ -1,37 +1,38 @@
 // What shading passes from one step to the next, in the order in which the steps make it; a fragment's frame is `surface::Frame`.
-use lighting::{Lookup, OptionalLookup};
+use binary32::Place;
+use lighting::Lookup;
 
 // The lookups of a lighting, and what their inputs need.
 #[derive(Clone, Copy)]
 pub struct LightingLookups {
     pub config: u32,
     pub needs_half: bool,
-    pub distribution0: OptionalLookup,
-    pub distribution1: OptionalLookup,
-    pub fresnel: OptionalLookup,
-    pub reflect_red: OptionalLookup,
-    pub reflect_green: OptionalLookup,
-    pub reflect_blue: OptionalLookup,
+    pub distribution0: Option<Lookup>,
+    pub distribution1: Option<Lookup>,
+    pub fresnel: Option<Lookup>,
+    pub reflect_red: Option<Lookup>,
+    pub reflect_green: Option<Lookup>,
+    pub reflect_blue: Option<Lookup>,
     pub spotlight: Lookup,
 }
 
-// Where a value is read: the table, the entry, and how far past it.
+// Where a value is read: the table, and the place in it.
 #[derive(Clone, Copy)]
-pub enum Reading {
-    Unread,
-    At(u32, u8, f32),
+pub struct Reading {
+    pub table: u32,
+    pub place: Place,
 }
 
-// Where the values of the lookups are read.
+// Where the values of the lookups are read, none where a lookup is missing.
 #[derive(Clone, Copy)]
 pub struct Readings {
-    pub spot: Reading,
-    pub distribution0: Reading,
-    pub red: Reading,
-    pub green: Reading,
-    pub blue: Reading,
-    pub distribution1: Reading,
-    pub fresnel: Reading,
+    pub spot: Option<Reading>,
+    pub distribution0: Option<Reading>,
+    pub red: Option<Reading>,
+    pub green: Option<Reading>,
+    pub blue: Option<Reading>,
+    pub distribution1: Option<Reading>,
+    pub fresnel: Option<Reading>,
 }
 
 // What the entries give there: 1 where none is read.

@@ -1,49 +1,32 @@
 // The values that a light takes from its lookups: whether it reads any table, and what is made of the entries that were read.
 ghost use Rattle.std.specs.Prelude.{◌≡◌};
-ghost use Rattle.light_steps.specs.Steps.{present as present_of, reads_tables, scaled_if, spot_scaled, fresnel_scaled, values_from, unread as unread_of};
+ghost use Rattle.light_steps.specs.Steps.{reads_tables, scaled_if, spot_scaled, fresnel_scaled, values_from, unread as unread_of};
 
 use crate::types::{EntryValues, LightingLookups, Values};
-use flags::either;
-use lighting::{Light, Lookup, OptionalLookup};
-
-pub(crate) fn present(lookup: OptionalLookup) -> bool
-    ensures { result ≡ present_of lookup }
-{
-    match lookup {
-        OptionalLookup::Missing => false,
-        OptionalLookup::Present(_) => true,
-    }
-}
+use lighting::{Light, Lookup};
 
 // Whether a light reads any table but its distance table.
+#[tactic(auto, unfolding(crate::specs::Steps::reads_tables))]
 pub(crate) fn reads_tables(lookups: LightingLookups, light: Light) -> bool
     ensures { result ≡ reads_tables lookups light }
 {
-    let distribution0 = lookups.distribution0;
-    let distribution1 = lookups.distribution1;
-    let fresnel = lookups.fresnel;
-    let red = lookups.reflect_red;
-    let green = lookups.reflect_green;
-    let blue = lookups.reflect_blue;
-    let first = either(
-        either(present(distribution0), present(distribution1)),
-        either(present(fresnel), present(red)),
-    );
-    either(
-        either(first, either(present(green), present(blue))),
-        light.spotlight,
-    )
+    lookups.distribution0.is_some()
+        || lookups.distribution1.is_some()
+        || lookups.fresnel.is_some()
+        || lookups.reflect_red.is_some()
+        || lookups.reflect_green.is_some()
+        || lookups.reflect_blue.is_some()
+        || light.spotlight
 }
 
-fn scaled_if(lookup: OptionalLookup, x: f32, missing: f32) -> f32
+#[tactic(auto, unfolding(crate::specs::Steps::scaled_if))]
+fn scaled_if(lookup: Option<Lookup>, x: f32, missing: f32) -> f32
     ensures { result ≡ scaled_if lookup x missing }
 {
-    match lookup {
-        OptionalLookup::Missing => missing,
-        OptionalLookup::Present(k) => k.scale * x,
-    }
+    lookup.map_or(missing, |lookup| lookup.scale * x)
 }
 
+#[tactic(auto, unfolding(crate::specs::Steps::spot_scaled))]
 fn spot_scaled(light: Light, lookup: Lookup, x: f32) -> f32
     ensures { result ≡ spot_scaled light lookup x }
 {
@@ -54,13 +37,15 @@ fn spot_scaled(light: Light, lookup: Lookup, x: f32) -> f32
     }
 }
 
-fn fresnel_scaled(last: bool, lookup: OptionalLookup, x: f32) -> f32
+#[tactic(auto, unfolding(crate::specs::Steps::fresnel_scaled))]
+fn fresnel_scaled(last: bool, lookup: Option<Lookup>, x: f32) -> f32
     ensures { result ≡ fresnel_scaled last lookup x }
 {
     if last { scaled_if(lookup, x, 1.0) } else { 1.0 }
 }
 
 // The values, from what the entries of the readings gave. Green and blue fall back to red.
+#[tactic(auto, unfolding(crate::specs::Steps::values_from))]
 pub(crate) fn values_from(
     lookups: LightingLookups,
     light: Light,
@@ -69,27 +54,21 @@ pub(crate) fn values_from(
 ) -> Values
     ensures { result ≡ values_from lookups light read last }
 {
-    let spotlight = lookups.spotlight;
-    let distribution0 = lookups.distribution0;
-    let distribution1 = lookups.distribution1;
-    let fresnel = lookups.fresnel;
-    let reflect_red = lookups.reflect_red;
-    let reflect_green = lookups.reflect_green;
-    let reflect_blue = lookups.reflect_blue;
-    let red = scaled_if(reflect_red, read.red, 1.0);
+    let red = scaled_if(lookups.reflect_red, read.red, 1.0);
     Values {
         distance: read.distance,
-        spot: spot_scaled(light, spotlight, read.spot),
-        distribution0: scaled_if(distribution0, read.distribution0, 1.0),
+        spot: spot_scaled(light, lookups.spotlight, read.spot),
+        distribution0: scaled_if(lookups.distribution0, read.distribution0, 1.0),
         red,
-        green: scaled_if(reflect_green, read.green, red),
-        blue: scaled_if(reflect_blue, read.blue, red),
-        distribution1: scaled_if(distribution1, read.distribution1, 1.0),
-        fresnel: fresnel_scaled(last, fresnel, read.fresnel),
+        green: scaled_if(lookups.reflect_green, read.green, red),
+        blue: scaled_if(lookups.reflect_blue, read.blue, red),
+        distribution1: scaled_if(lookups.distribution1, read.distribution1, 1.0),
+        fresnel: fresnel_scaled(last, lookups.fresnel, read.fresnel),
     }
 }
 
 // The values of a light that reads no table but its distance table.
+#[tactic(auto, unfolding(crate::specs::Steps::unread))]
 pub(crate) fn unread(distance: f32) -> Values
     ensures { result ≡ unread_of distance }
 {

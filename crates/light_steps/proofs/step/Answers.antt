@@ -1,7 +1,8 @@
 -- `light_steps::step` meets its contract: each operation and call is the definition's, in its order. A light that reads no table has 1 for each value, reads the
 -- half vector only with a geometric flag, and has no fresnel lookup that could be applied.
 use mathlib.Core.Path.{◌≡◌, refl, sym, ap, ◌∙◌}
-use mathlib.Core.Bool.{false}
+use mathlib.Core.Bool.{false, ◌&&◌}
+use Rattle.std.specs.Prelude.{is_some}
 use Rattle.sources.specs.Steps.{given}
 use Rattle.surface.specs.declared.Directions.{Directions}
 use Rattle.light_steps.specs.Steps.{unread, reads_tables, with_values, step_of}
@@ -9,34 +10,34 @@ use Rattle.surface.specs.Steps.{directions_of}
 use Rattle.light_steps.specs.ReadingsLaws.{read_none, none_applied}
 use Rattle.light_steps.proofs.Rays.{directions_is, distance_is, unread_is}
 use Rattle.light_steps.proofs.step.Goals as goal
+use Rattle.light_steps.proofs.step.Goals.{then-last, else-last}
 
 pub values_of-values-requires : goal.values_of-values-requires
-values_of-values-requires c =
-    let d = c.before.before.before.before.before in
-    let s = d.before.before.before.before.before.before.before in
-    (s.requires.0, s.requires.1, distance_is (given s.args.tables.now s.args.bytes.now) s.args.light s.args.frame.view _ _ d.ray_to-ray.ensures d.distance_of-distance.ensures)
+values_of-values-requires c = (
+  c.requires.0,
+  c.requires.1,
+  distance_is (given c.args.tables.now c.args.bytes.now) c.args.light c.args.frame.view _ _ c.ray_to-ray.ensures c.distance_of-distance.ensures,
+)
 
-pub returns-then-reads_tables : goal.returns-then-reads_tables
+pub returns-after-last : goal.returns-after-last
 unfolding step_of
-returns-then-reads_tables c =
-    let d = c.before.before.before.before.before.before.before in
-    let s = d.before.before.before.before.before.before.before in
+returns-after-last c =
+    let applied : c.if-last.applied ≡ (c.args.last && is_some c.args.lookups.fresnel) =
+    elim c.if-last.branch [ then-last w ↦ simp (w.applied-is, w.is_some-applied.ensures, w.if-last.true) | else-last w ↦ simp (w.applied-is, w.if-last.false) ] in
     simp
-    (c.with_values.ensures, c.values_of-values.ensures, c.both-applied.ensures, c.present.ensures, directions_is s.args.light s.args.frame s.args.lookups.needs_half _ _ d.ray_to-ray.ensures c.directions_of-directions.ensures)
+    (c.with_values.ensures, c.values_of-values.ensures, applied, directions_is c.args.light c.args.frame c.args.lookups.needs_half _ _ c.ray_to-ray.ensures c.directions_of-directions.ensures)
 
 pub returns-else-reads_tables : goal.returns-else-reads_tables
 unfolding step_of
 returns-else-reads_tables c =
-    let d = c.before.before.before.before in
-    let s = d.before.before.before.before.before.before.before in
-    let a = s.args in
+    let a = c.args in
     let none : reads_tables a.lookups a.light ≡ false = sym c.reads_tables.ensures ∙ c.if-reads_tables.false in
     c.with_unread.ensures
-    ∙ ap (λ (x : Directions). with_values a.sums a.light a.frame.normal x (unread d.distance_of-distance.result) a.settings false) c.unread_directions-directions.ensures
-    ∙ unread_is a.sums a.light a.frame.normal d.ray_to-ray.result.vector a.frame a.lookups.needs_half (unread d.distance_of-distance.result) a.settings false
+    ∙ ap (λ (x : Directions). with_values a.sums a.light a.frame.normal x (unread c.distance_of-distance.result) a.settings false) c.unread_directions-directions.ensures
+    ∙ unread_is a.sums a.light a.frame.normal c.ray_to-ray.result.vector a.frame a.lookups.needs_half (unread c.distance_of-distance.result) a.settings false
     ∙ simp (
-      directions_is a.light a.frame a.lookups.needs_half _ _ d.ray_to-ray.ensures refl,
-      distance_is (given a.tables.now a.bytes.now) a.light a.frame.view _ _ d.ray_to-ray.ensures d.distance_of-distance.ensures,
-      read_none (given a.tables.now a.bytes.now) a.lookups a.frame (directions_of a.light a.frame a.lookups.needs_half) a.light a.last s.requires.1 none,
+      directions_is a.light a.frame a.lookups.needs_half _ _ c.ray_to-ray.ensures refl,
+      distance_is (given a.tables.now a.bytes.now) a.light a.frame.view _ _ c.ray_to-ray.ensures c.distance_of-distance.ensures,
+      read_none (given a.tables.now a.bytes.now) a.lookups a.frame (directions_of a.light a.frame a.lookups.needs_half) a.light a.last c.requires.1 none,
       none_applied a.lookups a.light a.last none,
     )

@@ -5,7 +5,7 @@ use Rattle.light_steps.proofs.values_of.Goals as goal
 
 pub returns : goal.returns
 returns c =
-    let s = c.before.before.before.before.before in
+    let a = c.args in
     simp
-    (c.values_from.ensures, c.read_all-read.ensures, c.readings_of-readings.ensures, s.requires.2)
-    (read_in_steps (given s.args.tables.now s.args.bytes.now) s.args.lookups s.args.frame s.args.directions s.args.light s.args.last s.requires.1)
+    (c.values_from.ensures, c.read_all-read.ensures, c.readings_of-readings.ensures, c.requires.2)
+    (read_in_steps (given a.tables.now a.bytes.now) a.lookups a.frame a.directions a.light a.last c.requires.1)

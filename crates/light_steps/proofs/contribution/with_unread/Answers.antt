@@ -1,8 +1,0 @@
--- `contribution::with_unread` meets its contract: each operation and call is the definition's, in its order, with 1 for what is not read and fresnel not applied. Assumes
--- nothing.
-use Rattle.light_steps.specs.Steps.{with_values, with_values_by}
-use Rattle.light_steps.proofs.contribution.with_unread.Goals as goal
-
-pub returns : goal.returns
-unfolding with_values with_values_by
-returns c = simp (c.with_terms.ensures, c.specular-specular.ensures, c.diffuse-diffuse.ensures, c.facing_of-facing.ensures, c.dot.ensures, c.unread-values.ensures)
