@@ -1,1 +1,2 @@
-pub mod NextRegister
+pub mod ByKind
+pub mod Pairs

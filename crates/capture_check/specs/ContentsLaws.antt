@@ -2,7 +2,7 @@
 -- Assumes nothing.
 use Rattle.std.specs.Prelude.{ℕ, zero, suc, ◌+◌, ◌-◌, ◌*◌, ◌≤◌, ◌<◌, ◌≡◌, refl, List, [], ◌∷◌, true, length, get_or, take, drop, eqb, leb, ltb}
 use Rattle.std.proofs.Common.{arith, add-one, sym, ap, eqb-true, leb-true}
-use Rattle.flags.specs.FlagsLaws.{both_first, both_second}
+use Rattle.std.proofs.lemmas.Bool.{and_parts}
 use Rattle.capture_check.specs.Contents.{Body, triple, triples, body_count, contents, contents_end, words_in, sized, lies, gapless, shaped}
 
 -- ---- the triples, one by one
@@ -30,22 +30,22 @@ contents_count w = triples_count w 0 (body_count w)
 
 -- ---- a body that lies where it is due
 
-lies-offset : (b : Body) (at end : ℕ) → lies b at end ≡ true → b.offset ≡ at
+pub lies-offset : (b : Body) (at end : ℕ) → lies b at end ≡ true → b.offset ≡ at
 unfolding lies
-lies-offset b at end e = eqb-true b.offset at (both_first (eqb b.offset at) _ e)
+lies-offset b at end e = eqb-true b.offset at (and_parts (eqb b.offset at) _ e).0
 
 pub lies_end : (b : Body) (at end : ℕ) → lies b at end ≡ true → at + b.size ≤ end
 unfolding lies
 lies_end b at end e =
-    leb-true (at + b.size) end (both_first (leb (at + b.size) end) _ (both_second (eqb b.offset at) _ e))
+    leb-true (at + b.size) end (and_parts (leb (at + b.size) end) _ (and_parts (eqb b.offset at) _ e).1).0
 
 pub gapless_head : (b : Body) (bs : List Body) (at end : ℕ) → gapless (b ∷ bs) at end ≡ true → lies b at end ≡ true
 unfolding gapless
-gapless_head b bs at end e = both_first (lies b at end) _ e
+gapless_head b bs at end e = (and_parts (lies b at end) _ e).0
 
 pub gapless_rest : (b : Body) (bs : List Body) (at end : ℕ) → gapless (b ∷ bs) at end ≡ true → gapless bs (at + b.size) end ≡ true
 unfolding gapless
-gapless_rest b bs at end e = both_second (lies b at end) _ e
+gapless_rest b bs at end e = (and_parts (lies b at end) _ e).1
 
 -- body i of n, which is due at `at` of `end` words, its size s being read from the contents
 module _ (w : List ℕ) (i n at end s : ℕ) (h : i < n) (g : gapless (triples w i (n - i)) at end ≡ true) (q : s ≡ get_or w (3 + 3 * i) 0) where
@@ -69,13 +69,13 @@ module _ (w : List ℕ) (i n at end s : ℕ) (h : i < n) (g : gapless (triples w
 pub shaped_end : (w : List ℕ) → shaped w ≡ true → contents_end (body_count w) ≤ length w
 unfolding shaped
 shaped_end w e =
-    leb-true _ _ (both_first (leb (contents_end (body_count w)) (length w)) _ (both_second (leb (body_count w) 16) _ e))
+    leb-true _ _ (and_parts (leb (contents_end (body_count w)) (length w)) _ (and_parts (leb (body_count w) 16) _ e).1).0
 
 pub shaped-gapless : (w : List ℕ) → shaped w ≡ true → gapless (contents w) (contents_end (body_count w)) (length w) ≡ true
 unfolding shaped
 shaped-gapless w e =
-    both_second (leb (contents_end (body_count w)) (length w)) _ (both_second (leb (body_count w) 16) _ e)
+    (and_parts (leb (contents_end (body_count w)) (length w)) _ (and_parts (leb (body_count w) 16) _ e).1).1
 
 pub sized_most : (n : ℕ) → sized n ≡ true → n ≤ 65536
 unfolding sized
-sized_most n e = leb-true n 65536 (both_first (leb n 65536) _ (both_second (ltb 0 n) _ e))
+sized_most n e = leb-true n 65536 (and_parts (leb n 65536) _ (and_parts (ltb 0 n) _ e).1).0

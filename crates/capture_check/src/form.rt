@@ -1,43 +1,40 @@
 // The form of a capture: its count, its contents, and bodies that follow them without gaps to the end.
-ghost use Rattle.std.specs.Prelude.{◌≡◌, ◌≤◌, length};
-ghost use Rattle.capture_check.specs.Contents.{triples, contents_end, gapless as gapless_of, shaped as shaped_of};
+ghost use Rattle.std.specs.Prelude.{◌≡◌, ◌≤◌};
+ghost use Rattle.capture_check.specs.Contents.{gapless as gapless_of, shaped as shaped_of};
+ghost use Rattle.capture_check.specs.Steps.{bodies};
 
-use crate::contents::{lies, wide};
+use crate::contents::{lies, triples};
 
-// Whether the bodies follow the contents without gaps, to the end.
-fn gapless(words: &[u32], count: usize) -> bool
-    requires { contents_end count ≤ length words.now }
-    ensures { result ≡ gapless_of (triples words.now 0 count) (contents_end count) (length words.now) }
+// Whether the bodies follow each other without gaps, from `start` to `end`.
+fn gapless(contents: &[[u32; 3]], start: usize, end: usize) -> bool
+    requires { start ≤ end }
+    ensures { result ≡ gapless_of (bodies contents.now) start end }
 {
-    let mut at = 1 + 3 * count;
-    let mut i = 0;
-    while i < count {
-        let kind = words[1 + 3 * i];
-        let offset = wide(words[2 + 3 * i]);
-        let size = wide(words[3 + 3 * i]);
-        if lies(kind, offset, size, at, words.len()) {
-            at += size;
-        } else {
+    let mut at = start;
+    for [kind, offset, size] in contents {
+        let size = *size as usize;
+        if !lies(*kind, *offset as usize, size, at, end) {
             return false;
         }
-        i += 1;
+        at += size;
     }
-    at == words.len()
+    at == end
 }
 
 // Whether the words have the form of a capture.
 pub(crate) fn shaped(words: &[u32]) -> bool
     ensures { result ≡ shaped_of words.now }
 {
-    if words.len() == 0 {
+    if words.is_empty() {
         return false;
     }
-    let count = wide(words[0]);
+    let count = words[0] as usize;
     if count > 16 {
         return false;
     }
-    if words.len() < 1 + 3 * count {
+    let end = 1 + 3 * count;
+    if words.len() < end {
         return false;
     }
-    gapless(words, count)
+    gapless(triples(words), end, words.len())
 }

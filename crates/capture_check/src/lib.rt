@@ -11,21 +11,20 @@ ghost use Rattle.std.specs.Prelude.{◌≡◌};
 ghost use Rattle.refusals.specs.Refusals.{outcome_number};
 ghost use Rattle.capture_check.specs.Contents.{capture_words_refusal};
 
-use crate::contents::wide;
+use crate::contents::triples;
 use crate::form::shaped;
 use crate::registers::registers_right;
-use refusals::{Outcome, Refusal};
+use refusals::Refusal;
 
 // Refusals 8 and 3 of the words of an input whose size is right: every rule of form comes before any register.
-pub fn check_words(words: &[u32]) -> Outcome
+pub fn check_words(words: &[u32]) -> Result<(), Refusal>
     ensures { outcome_number result ≡ capture_words_refusal words.now }
 {
     if !shaped(words) {
-        return Outcome::Refused(Refusal::BadCapture);
+        return Err(Refusal::BadCapture);
     }
-    let count = wide(words[0]);
-    if !registers_right(words, count) {
-        return Outcome::Refused(Refusal::HighRegister);
+    if !registers_right(words, triples(words)) {
+        return Err(Refusal::HighRegister);
     }
-    Outcome::Done
+    Ok(())
 }

@@ -1,49 +1,38 @@
 // The registers of a capture whose form is right.
-ghost use Rattle.std.specs.Prelude.{◌≡◌, true, ◌≤◌, length};
-ghost use Rattle.capture_check.specs.Contents.{triples, contents_end, gapless as gapless_of, registers_in, body_right, registers_right};
+ghost use Rattle.std.specs.Prelude.{◌≡◌};
+ghost use Rattle.capture_check.specs.Contents.{registers_in, body_right, registers_right};
+ghost use Rattle.capture_check.specs.Steps.{bodies, Within};
 
-use crate::contents::wide;
+use crate::contents::{BodyKind, body_words};
 
-// Whether each register of a kind 1 body is one.
-fn registers_in(pairs: &[u32]) -> bool
-    ensures { result ≡ registers_in pairs.now }
+// Whether each register of these register, value pairs is one.
+fn registers_in(words: &[u32]) -> bool
+    ensures { result ≡ registers_in words.now }
 {
-    let n = pairs.len() / 2;
-    let mut i = 0;
-    while i < n {
-        if pairs[2 * i] >= 474 {
-            return false;
-        }
-        i += 1;
-    }
-    true
+    let (pairs, _) = words.as_chunks::<2>();
+    pairs.iter().all(|[register, _]| *register < 474)
 }
 
 // The same of a body of any kind.
+#[tactic(auto, using(crate::proofs::registers::ByKind::writes_right, crate::proofs::registers::ByKind::fragments_right, crate::proofs::registers::ByKind::restore_right, crate::proofs::registers::ByKind::none_right))]
 fn body_right(kind: u32, body: &[u32]) -> bool
     ensures { result ≡ body_right kind body.now }
 {
-    if kind == 1 {
-        return registers_in(body);
+    match BodyKind::from_number(kind) {
+        Some(BodyKind::Writes) => registers_in(body),
+        Some(BodyKind::Fragments | BodyKind::Restore) | None => true,
     }
-    true
 }
 
-// Whether no register of any kind 1 body is too high, the bodies being where they are due.
-pub(crate) fn registers_right(words: &[u32], count: usize) -> bool
-    requires { (contents_end count ≤ length words.now) × (gapless_of (triples words.now 0 count) (contents_end count) (length words.now) ≡ true) }
-    ensures { result ≡ registers_right words.now (triples words.now 0 count) }
+// Whether no register of any kind 1 body is too high, each body lying within the words.
+pub(crate) fn registers_right(words: &[u32], contents: &[[u32; 3]]) -> bool
+    requires { Within words.now contents.now }
+    ensures { result ≡ registers_right words.now (bodies contents.now) }
 {
-    let mut at = 1 + 3 * count;
-    let mut i = 0;
-    while i < count {
-        let kind = words[1 + 3 * i];
-        let end = at + wide(words[3 + 3 * i]);
-        if !body_right(kind, &words[at..end]) {
+    for [kind, offset, size] in contents {
+        if !body_right(*kind, body_words(words, *offset, *size)) {
             return false;
         }
-        at = end;
-        i += 1;
     }
     true
 }

@@ -11,10 +11,8 @@ pub fn to_words(input: &[u8], words: &mut [u32]) -> usize
 {
     let none = [0u32; 0];
     let n = sources::count(&none, input);
-    let mut i = 0;
-    while i < n {
+    for i in 0..n {
         words[i] = sources::word(&none, input, i);
-        i += 1;
     }
-    i
+    n
 }

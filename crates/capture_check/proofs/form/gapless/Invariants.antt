@@ -1,11 +1,7 @@
-use Prim.Native.Nat.{◌≤◌, ◌-◌}
-use mathlib.Core.Path.{◌≡◌}
-use lib.ListN.{length}
-use Rattle.capture_check.specs.Contents.{triples, contents_end, gapless}
+use Rattle.std.proofs.Common.{◌≡◌, ◌≤◌, drop}
+use Rattle.capture_check.specs.Contents.{gapless}
+use Rattle.capture_check.specs.Steps.{bodies}
 use Rattle.capture_check.proofs.form.gapless.Given as goal
 
-abbrev pub invariant-loop-i : goal.invariant-loop-i
-invariant-loop-i l = (l.i ≤ l.count) × (contents_end l.count ≤ length l.words) × (l.at ≤ length l.words) × (gapless (triples l.words l.i (l.count - l.i)) l.at (length l.words) ≡ gapless (triples l.words 0 l.count) (contents_end l.count) (length l.words))
-
-abbrev pub decreases-loop-i : goal.decreases-loop-i
-decreases-loop-i l = l.count - l.i
+abbrev pub invariant-loop-kind : goal.invariant-loop-kind
+invariant-loop-kind l = (l.at ≤ l.end) × (gapless (bodies (drop l.kind-index l.contents)) l.at l.end ≡ gapless (bodies l.contents) l.start l.end)

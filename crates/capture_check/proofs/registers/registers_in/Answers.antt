@@ -1,21 +1,12 @@
--- `registers::registers_in` meets its contract. What the pairs from the place on say stays what all of them say.
-use native.Mathlib.Omega.{arith}
-use mathlib.Core.Path.{refl, sym, ◌∙◌}
-use Rattle.capture_check.proofs.registers.NextRegister.{registers_go, registers_stop, registers_none}
-use borrow.Author.Rules.{rules}
+-- `registers::registers_in` meets its contract: it looks at each pair, whose first word is the register.
+use Rattle.std.proofs.Common.{rules, tests, length, ◌/◌, ◌∙◌}
+use Rattle.std.specs.Simd.{first_chunks}
+use Rattle.std.proofs.lemmas.Iterator.Search.{all_from_yields_List}
+use Rattle.std.proofs.lemmas.Iterator.{YieldsList-from_slice}
+use Rattle.capture_check.proofs.registers.Pairs.{low, pairs_low}
 use Rattle.capture_check.proofs.registers.registers_in.Goals as goal
 
-pub returns-then-pairs-i-ge474 : goal.returns-then-pairs-i-ge474
-returns-then-pairs-i-ge474 c =
-    let l = c.loop-i in
-    let pairs = c.args.pairs.now in
-    sym (registers_stop pairs l.i (omega arith) (omega arith)) ∙ l.invariant.2
-
-pub loop-i-preserved : goal.loop-i-preserved
-loop-i-preserved c =
-    let l = c.loop-i in
-    let pairs = c.args.pairs.now in
-    (search rules, refl, sym (registers_go pairs l.i (omega arith) (omega arith)) ∙ l.invariant.2)
-
 pub returns : goal.returns
-returns c = sym (registers_none _ c.loop-i.i (omega arith)) ∙ c.loop-i.invariant.2
+returns c =
+    all_from_yields_List low _ _ _ c.all.ensures.ran (YieldsList-from_slice (first_chunks 2 (length c.args.words.now / 2) c.args.words.now) cc) (λ x b q k. search (rules, tests))
+    ∙ pairs_low c.args.words.now
