@@ -1,7 +1,9 @@
 -- A list of writes goes on pair by pair: the next pair of what is left is written, and then the rest is due. Once a write is refused the rest changes nothing,
--- and where less than a pair is left nothing is due. Assumes nothing.
-use Rattle.std.specs.Prelude.{◌≡◌, ℕ, ◌+◌, ◌*◌, ◌/◌, ◌≤◌, Bool, false, cond, List, [], ◌∷◌, length, drop, ◌==◌, ◌≢◌, nat_eq, slice_index}
-use Rattle.std.proofs.Common.{arith, ◌∙◌, length-drop}
+-- and where less than a pair is left nothing is due. The pairs are the list's chunks of two. Assumes nothing.
+use Rattle.std.specs.Prelude.{◌≡◌, ℕ, zero, suc, ◌+◌, ◌*◌, ◌/◌, ◌<◌, ◌≤◌, Bool, false, cond, List, [], ◌∷◌, length, take, drop, get_or, ◌==◌, ◌≢◌, nat_eq, slice_index}
+use Rattle.std.specs.Simd.{first_chunks}
+use Rattle.std.proofs.Common.{arith, ◌∙◌, add-zero, length-drop, lit<}
+use Rattle.std.proofs.lemmas.List.{get_or-take, get_or-drop, drop-drop}
 use Rattle.std.proofs.Math.Path.{refl, sym, ap}
 use borrow.Author.Tests.{ne_eqb}
 use Rattle.sources.specs.PieceLaws.{drop_two}
@@ -44,3 +46,17 @@ module _ (f t : List ℕ) (g : ℕ) (l : List ℕ) (i : ℕ) (h : 2 * i + 2 ≤ 
   refused k n f' t' g' e =
       let z : nat_eq k 0 ≡ false = ne_eqb k 0 n in
       sym (turn ∙ ap (λ (w : Wrote). write_each (counted i w) (drop (2 * (i + 1)) l)) (sym e) ∙ rw z (stopped (writes k i f' t' g') (drop (2 * (i + 1)) l) z))
+
+-- a chunk, and its two words
+chunk_at : (k : ℕ) (l : List ℕ) (i : ℕ) (d : List ℕ) → i < k → get_or (first_chunks 2 k l) i d ≡ take 2 (drop (2 * i) l)
+chunk_at zero l i d h = absurd (omega arith)
+chunk_at (suc k) l zero d h = refl
+chunk_at (suc k) l (suc i) d h =
+    let e : 2 + 2 * i ≡ 2 * suc i = omega arith in
+    chunk_at k (drop 2 l) i d (omega arith) ∙ ap (λ (r : List ℕ). take 2 r) (drop-drop (2 * i) 2 l ∙ ap (λ (n : ℕ). drop n l) e)
+
+word_at : (l : List ℕ) (k i j : ℕ) → i < k → j < 2 → get_or (get_or (first_chunks 2 k l) i []) j 0 ≡ get_or l (2 * i + j) 0
+word_at l k i j h b = rw (chunk_at k l i [] h, get_or-take 2 (drop (2 * i) l) j 0 b) (get_or-drop (2 * i) l j 0)
+
+pub pair_at : (c : List (List ℕ)) (k : ℕ) (l : List ℕ) (i : ℕ) → c ≡ first_chunks 2 k l → i < k → (get_or (get_or c i []) 0 0 ≡ slice_index l (2 * i)) × (get_or (get_or c i []) 1 0 ≡ slice_index l (2 * i + 1))
+pair_at c k l i e h = rw e (word_at l k i 0 h (lit< tt) ∙ rw add-zero, word_at l k i 1 h (lit< tt))

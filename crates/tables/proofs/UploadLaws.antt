@@ -1,9 +1,8 @@
 -- Laws of the upload: an entry is put within the tables, an entry whose bits do not change is put back as it was, and 1C5 keeps all bits but its entry's. Assumes nothing.
 use Rattle.std.specs.Prelude.{◌≡◌, ℕ, ◌+◌, ◌/◌, ◌%◌, ◌<◌, Bool, true, false, cond, not, ◌&&◌, List, length, ◌==◌, ◌≢◌, slice_index, slice_index_or, slice_set, refl}
 use Rattle.std.proofs.Common.{arith, sym, ap, ◌∙◌, true≢false, length-set, get_or-set_same, get_or-set_other, ltb-true, eqb-true, eq-eqb}
-use Rattle.std.proofs.lemmas.Bool.{false≢true}
+use Rattle.std.proofs.lemmas.Bool.{and_parts, false≢true}
 use Rattle.std.proofs.lemmas.List.{set-get_or}
-use Rattle.flags.specs.FlagsLaws.{both_true}
 use Rattle.fields.specs.Fields.{upload_value_bits, upload_step_bits}
 use Rattle.tables.specs.Tables.{moved, stored, place, put_entry, put, same_entry, changes}
 
@@ -36,7 +35,7 @@ length-put t i v = length_cond (stored i) (put_entry t i v) t (length-put_entry 
 same_put_entry : (t : List ℕ) (i v : ℕ) → same_entry t i v ≡ true → put_entry t i v ≡ t
 unfolding same_entry put_entry
 same_put_entry t i v e =
-    let h = both_true (slice_index t (place i) == upload_value_bits v) _ e in
+    let h = and_parts (slice_index t (place i) == upload_value_bits v) _ e in
     let p : slice_index_or t (place i) 0 ≡ upload_value_bits v = eqb-true _ _ h.0 in
     let q : slice_index_or t (place i + 1) 0 ≡ upload_step_bits v = eqb-true _ _ h.1 in
     rw (← p, ← q, set-get_or) (set-get_or t (place i + 1) 0)
@@ -54,7 +53,7 @@ put_same t i v e = put_or (stored i) (same_entry t i v) (put_entry t i v) t (sam
 -- where one does, they are those with the entry put
 pub put_changed : (t : List ℕ) (i v : ℕ) → changes t i v ≡ true → put t i v ≡ put_entry t i v
 unfolding put changes
-put_changed t i v e = rw (both_true (stored i) (not (same_entry t i v)) e).0 refl
+put_changed t i v e = rw (and_parts (stored i) (not (same_entry t i v)) e).0 refl
 
 put_entry_value : (t : List ℕ) (i v : ℕ) → place i + 1 < length t → slice_index (put_entry t i v) (place i) ≡ upload_value_bits v
 unfolding put_entry
@@ -71,7 +70,7 @@ put_entry_step t i v h =
 pub put_entry_differs : (t : List ℕ) (i v : ℕ) → length t ≡ 12288 → changes t i v ≡ true → put_entry t i v ≢ t
 unfolding changes same_entry
 put_entry_differs t i v l e q =
-    let h = both_true (stored i) (not (same_entry t i v)) e in
+    let h = and_parts (stored i) (not (same_entry t i v)) e in
     let within : place i + 1 < length t = omega (arith, place_within i h.0) in
     let value : slice_index_or t (place i) 0 ≡ upload_value_bits v = ap (λ (s : List ℕ). slice_index s (place i)) (sym q) ∙ put_entry_value t i v within in
     let step : slice_index_or t (place i + 1) 0 ≡ upload_step_bits v = ap (λ (s : List ℕ). slice_index s (place i + 1)) (sym q) ∙ put_entry_step t i v within in

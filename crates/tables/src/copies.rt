@@ -2,10 +2,10 @@
 ghost use Rattle.std.specs.Prelude.{◌≡◌};
 ghost use Rattle.tables.specs.Tables.{restore as restore_of, save as save_of, restored_of, saved_of};
 
-use crate::LAST_GENERATION;
 use refusals::Refusal;
 
 // The entries that a saved state had, as they are; the generation afterwards.
+#[tactic(auto, unfolding(crate::specs::Tables::restore_if, crate::specs::Tables::last, refusals::specs::Refusals::tables_refusal, refusals::specs::Refusals::saved_refusal))]
 pub fn restore(tables: &mut [u32], generation: u64, saved: &[u32]) -> Result<u64, Refusal>
     ensures { restored_of result generation tables.new ≡ restore_of tables.old generation saved.now }
 {
@@ -15,14 +15,13 @@ pub fn restore(tables: &mut [u32], generation: u64, saved: &[u32]) -> Result<u64
     if saved.len() != 12288 {
         return Err(Refusal::WrongSaved);
     }
-    if generation == LAST_GENERATION {
-        return Err(Refusal::LastGeneration);
-    }
+    let raised = generation.checked_add(1).ok_or(Refusal::LastGeneration)?;
     tables.copy_from_slice(saved);
-    Ok(generation + 1)
+    Ok(raised)
 }
 
 // Every entry, table after table, for a saved state.
+#[tactic(auto, unfolding(crate::specs::Tables::save_if, refusals::specs::Refusals::tables_refusal, refusals::specs::Refusals::saved_refusal))]
 pub fn save(tables: &[u32], output: &mut [u32]) -> Result<(), Refusal>
     ensures { saved_of result output.new ≡ save_of tables.now output.old }
 {

@@ -9,9 +9,6 @@ pub mod registers;
 
 use refusals::Refusal;
 
-// The generation that cannot rise.
-pub(crate) const LAST_GENERATION: u64 = u64::MAX;
-
 // What a list of writes answers: that all are done, or the refusal of the first write that was refused; how many were made, and the generation after them.
 #[derive(Clone, Copy)]
 pub struct WrittenEach {

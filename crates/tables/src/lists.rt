@@ -14,16 +14,14 @@ pub fn write_each(
 ) -> WrittenEach
     ensures { writes_of result file.new tables.new ≡ write_each (writes 0 0 file.old tables.old generation) pairs.now }
 {
-    let count = pairs.len() / 2;
+    let (whole, _) = pairs.as_chunks::<2>();
     let mut g = generation;
-    let mut i = 0;
-    while i < count {
-        let written = write(file, tables, g, pairs[2 * i], pairs[2 * i + 1]);
-        match written {
+    for (done, &[register, value]) in whole.iter().enumerate() {
+        match write(file, tables, g, register, value) {
             Err(refusal) => {
                 return WrittenEach {
                     outcome: Err(refusal),
-                    done: i,
+                    done,
                     generation: g,
                 };
             }
@@ -31,11 +29,10 @@ pub fn write_each(
                 g = raised;
             }
         }
-        i += 1;
     }
     WrittenEach {
         outcome: Ok(()),
-        done: count,
+        done: whole.len(),
         generation: g,
     }
 }

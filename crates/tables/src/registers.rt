@@ -2,7 +2,6 @@
 ghost use Rattle.std.specs.Prelude.{◌≡◌, ◌≤◌, length};
 ghost use Rattle.tables.specs.Tables.{moved as moved_of, upload as upload_of, write as write_of, wrote_of};
 
-use crate::LAST_GENERATION;
 use refusals::Refusal;
 
 const REG_TABLE_INDEX: usize = 0x1C5;
@@ -21,6 +20,7 @@ fn moved(index: u32) -> u32
 }
 
 // Takes a word of table data, into the table and entry that the index register names, which then moves on to the next entry; the generation afterwards.
+#[tactic(auto, unfolding(crate::specs::Tables::changes, crate::specs::Tables::stored, crate::specs::Tables::same_entry, crate::specs::Tables::place, crate::specs::Tables::put_entry, crate::specs::Tables::last), using(crate::proofs::WriteLaws::upload_same, crate::proofs::WriteLaws::upload_refused, crate::proofs::WriteLaws::upload_changed))]
 fn upload(file: &mut [u32], tables: &mut [u32], generation: u64, value: u32) -> Result<u64, Refusal>
     requires { (474 ≤ length file.old) × (length tables.old ≡ 12288) }
     ensures { wrote_of result generation file.new tables.new ≡ upload_of file.old tables.old generation value }
@@ -39,10 +39,7 @@ fn upload(file: &mut [u32], tables: &mut [u32], generation: u64, value: u32) -> 
         file[REG_TABLE_INDEX] = next;
         return Ok(generation);
     }
-    if generation == LAST_GENERATION {
-        return Err(Refusal::LastGeneration);
-    }
-    let raised = generation + 1;
+    let raised = generation.checked_add(1).ok_or(Refusal::LastGeneration)?;
     tables[at] = bits;
     tables[at + 1] = step;
     file[REG_TABLE_INDEX] = next;
@@ -50,6 +47,7 @@ fn upload(file: &mut [u32], tables: &mut [u32], generation: u64, value: u32) -> 
 }
 
 // A write to a register: table data goes into the tables, any other word into the file; the generation afterwards.
+#[tactic(auto, unfolding(crate::specs::Tables::write_if, crate::specs::Tables::is_data, refusals::specs::Refusals::file_refusal, refusals::specs::Refusals::tables_refusal, refusals::specs::Refusals::register_refusal))]
 pub fn write(
     file: &mut [u32],
     tables: &mut [u32],
@@ -68,10 +66,9 @@ pub fn write(
     if register >= 474 {
         return Err(Refusal::HighRegister);
     }
-    if register >= REG_TABLE_DATA && register <= REG_TABLE_DATA_END {
+    if (REG_TABLE_DATA..=REG_TABLE_DATA_END).contains(&register) {
         return upload(file, tables, generation, value);
     }
-    let at = register as usize;
-    file[at] = value;
+    file[register as usize] = value;
     Ok(generation)
 }

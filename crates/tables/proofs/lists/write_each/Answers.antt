@@ -1,28 +1,28 @@
--- `lists::write_each` meets its contract. Before pair i the pairs before it are made, and what the rest of the list is due stays what all of it is due
+-- `lists::write_each` meets its contract. Before a pair the pairs before it are made, and what the rest of the list is due stays what all of it is due
 -- (ListLaws: made); a refused write ends the list (ListLaws: refused).
 use Rattle.std.proofs.Common.{◌≡◌, ◌/◌, length, sym, refl, ◌∙◌, arith}
 use Rattle.tables.specs.Tables.{writes}
 use Rattle.tables.specs.RefusalLaws.{refusal_not_zero}
-use Rattle.tables.proofs.ListLaws.{none_left, made, refused}
+use Rattle.tables.proofs.ListLaws.{none_left, made, refused, pair_at}
 use Rattle.tables.proofs.lists.write_each.Goals as goal
 
 pub returns-in-Err : goal.returns-in-Err
 returns-in-Err c =
-    let a = c.args in
-    let l = c.loop-i in
-    let w = c.write-written in
-    refused l.file l.tables l.g a.pairs.now l.i (omega arith) _ (refusal_not_zero c.in-Err.refusal) _ _ l.g (rw c.in-Err.is at w.ensures) ∙ l.invariant.4
+    let p = c.args.pairs.now in
+    let l = c.loop-done in
+    let e = pair_at c.as_chunks.result.0.now (length p / 2) p l.done c.as_chunks.ensures.front (omega arith) in
+    refused l.file l.tables l.g p l.done (omega arith) _ (refusal_not_zero c.in-Err.refusal) _ _ l.g (rw (c.in-Err.is, e.0, e.1) at c.write.ensures) ∙ l.invariant
 
-pub loop-i-preserved : goal.loop-i-preserved
-loop-i-preserved c =
-    let a = c.args in
-    let l = c.loop-i in
-    let w = c.write-written in
-    (omega arith, l.invariant.1, w.auto.file ∙ l.invariant.2, w.auto.tables ∙ l.invariant.3, made l.file l.tables l.g a.pairs.now l.i (omega arith) _ _ _ (rw c.in-Ok.is at w.ensures) ∙ l.invariant.4)
+pub loop-done-preserved : goal.loop-done-preserved
+loop-done-preserved c =
+    let p = c.args.pairs.now in
+    let l = c.loop-done in
+    let e = pair_at c.as_chunks.result.0.now (length p / 2) p l.done c.as_chunks.ensures.front (omega arith) in
+    made l.file l.tables l.g p l.done (omega arith) _ _ _ (rw (c.in-Ok.is, e.0, e.1) at c.write.ensures) ∙ l.invariant
 
 pub returns : goal.returns
 returns c =
-    let a = c.args in
-    let l = c.loop-i in
-    let e : l.i ≡ length a.pairs.now / 2 = omega (arith, l.invariant.1) in
-    sym (none_left (writes 0 (length a.pairs.now / 2) l.file l.tables l.g) a.pairs.now (length a.pairs.now / 2) refl) ∙ (rw e at l.invariant.4)
+    let p = c.args.pairs.now in
+    let l = c.loop-done in
+    let e : l.done ≡ length p / 2 = omega arith in
+    rw c.as_chunks.ensures.front_len (sym (none_left (writes 0 (length p / 2) l.file l.tables l.g) p (length p / 2) refl) ∙ (rw e at l.invariant))
