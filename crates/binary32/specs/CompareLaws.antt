@@ -6,7 +6,7 @@ use Rattle.std.specs.Bool.{beq}
 use Rattle.std.specs.Float.{nan, inf, fin, binary32}
 use Rattle.std.specs.Float.Ieee.{up, down, below, level, lt, eq, fits, is_nan}
 use Rattle.std.specs.Float.Ieee.Fits.{up_pos}
-use Rattle.flags.specs.FlagsLaws.{both_true}
+use Rattle.std.proofs.lemmas.Bool.{and_parts}
 use Rattle.binary32.specs.ValueLaws.{same_value}
 
 -- ---- what a comparison that holds says
@@ -79,7 +79,7 @@ zero_of s nan p h = absurd (true≢false (sym h))
 zero_of s (inf t) p h = absurd (true≢false (sym h))
 zero_of s (fin t n d) p h =
     let b = n * up d * 1 in
-    let is : 0 * 1 * down d ≡ b = eqb-true (0 * 1 * down d) b (both_true (eqb (0 * 1 * down d) b) (beq s t || eqb (0 * 1 * down d) 0) h).0 in
+    let is : 0 * 1 * down d ≡ b = eqb-true (0 * 1 * down d) b (and_parts (eqb (0 * 1 * down d) b) (beq s t || eqb (0 * 1 * down d) 0) h).0 in
     let none : n ≡ 0 = first_zero n (up d) (up_pos d) (sym (mul-one (n * up d)) ∙ sym is ∙ zero-mul (down d)) in
     (t, ap (λ (z : ℕ). fin t z d) none ∙ zero_is t d (subst (λ (z : ℕ). T (fits binary32 (fin t z d))) none p))
 

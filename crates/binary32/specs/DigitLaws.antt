@@ -8,7 +8,7 @@ use Rattle.std.specs.Float.Ieee.{up, down, size, odd, of_fields, of_bits, to_bit
 use Rattle.std.specs.Float.Ieee.Digits.{size-le}
 use Rattle.std.specs.Float.Ieee.Exact.{HasValue, odd_sign}
 use Rattle.std.specs.Float.Ieee.Fits.{down_pos, kept-lt}
-use Rattle.flags.specs.FlagsLaws.{alike}
+use Rattle.std.specs.Cmp.{both_ways}
 
 -- the exponent's field and the digits, a leading one among them
 abbrev pub field : ℕ → ℕ
@@ -55,7 +55,7 @@ tiny_fields s t = odd_sign 24 s t 0 149
 
 -- ---- tests of numbers
 pub ltb_scale : (p q h : ℕ) → 0 < h → ltb (p * h) (q * h) ≡ ltb p q
-ltb_scale p q h k = alike (ltb (p * h) (q * h)) (ltb p q) (λ u. lt-ltb p q (lt_of_mul-lt-mul_right h (ltb-true (p * h) (q * h) u))) (λ u. lt-ltb (p * h) (q * h) (mul-lt-mul_of_pos_right (ltb-true p q u) k))
+ltb_scale p q h k = both_ways (ltb (p * h) (q * h)) (ltb p q) (λ u. lt-ltb p q (lt_of_mul-lt-mul_right h (ltb-true (p * h) (q * h) u))) (λ u. lt-ltb (p * h) (q * h) (mul-lt-mul_of_pos_right (ltb-true p q u) k))
 
 -- equal fractions p / d and a / c leave a rest alike
 rest_none : (p d a c : ℕ) → 0 < d → p * c ≡ a * d → p % d ≡ 0 → a % c ≡ 0
@@ -68,7 +68,7 @@ rest_none p d a c D e z =
 
 pub rest_same : (p d a c : ℕ) → 0 < d → 0 < c → p * c ≡ a * d → eqb (p % d) 0 ≡ eqb (a % c) 0
 rest_same p d a c D C e =
-    alike (eqb (p % d) 0) (eqb (a % c) 0) (λ t. eq-eqb (a % c) 0 (rest_none p d a c D e (eqb-true (p % d) 0 t)))
+    both_ways (eqb (p % d) 0) (eqb (a % c) 0) (λ t. eq-eqb (a % c) 0 (rest_none p d a c D e (eqb-true (p % d) 0 t)))
     (λ t. eq-eqb (p % d) 0 (rest_none a c p d C (sym e) (eqb-true (a % c) 0 t)))
 
 -- The value in units of the smallest, 2 ^ -149, its whole part, and whether a rest is left: in a number that is not zero.
@@ -144,7 +144,7 @@ left_over b d = elim (either d) [
     no b e = omega arith
 
     split : (q r m : ℕ) → q + r ≡ m → eqb q m ≡ eqb r 0
-    split q r m e = alike (eqb q m) (eqb r 0) (λ t. eq-eqb r 0 (left q r m e (eqb-true q m t))) (λ t. eq-eqb q m (right q r m e (eqb-true r 0 t)))
+    split q r m e = both_ways (eqb q m) (eqb r 0) (λ t. eq-eqb r 0 (left q r m e (eqb-true q m t))) (λ t. eq-eqb q m (right q r m e (eqb-true r 0 t)))
       where
         left : (q r m : ℕ) → q + r ≡ m → q ≡ m → r ≡ 0
         left q r m e h = omega arith

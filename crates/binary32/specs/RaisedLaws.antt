@@ -15,7 +15,7 @@ use Rattle.std.specs.Float.Ieee.Nearest.{nearest-ge}
 use Rattle.std.specs.Float.Ieee.Positive.{first_pos}
 use Rattle.std.specs.Float.Ieee.Scale.{round_same}
 use Rattle.std.specs.Float.Ieee.Back.{round_whole}
-use Rattle.flags.specs.FlagsLaws.{alike}
+use Rattle.std.specs.Cmp.{both_ways}
 use Rattle.binary32.specs.WordsLaws.{word_of_float_of}
 use Rattle.binary32.specs.ValueLaws.{round_own}
 use Rattle.binary32.specs.Binary32.{floor_part}
@@ -128,7 +128,7 @@ below_scale false p false q h k = ltb_scale p q h k
 below_scale false p true q h k = refl
 below_scale true p false q h k =
     ap (λ (z : ℕ). ltb 0 z) (sym (add-mul p q h))
-    ∙ alike (ltb 0 ((p + q) * h)) (ltb 0 (p + q)) (λ u. lt-ltb 0 (p + q) (first_pos (p + q) h (ltb-true 0 ((p + q) * h) u))) (λ u. lt-ltb 0 ((p + q) * h) (mul-pos (ltb-true 0 (p + q) u) k))
+    ∙ both_ways (ltb 0 ((p + q) * h)) (ltb 0 (p + q)) (λ u. lt-ltb 0 (p + q) (first_pos (p + q) h (ltb-true 0 ((p + q) * h) u))) (λ u. lt-ltb 0 ((p + q) * h) (mul-pos (ltb-true 0 (p + q) u) k))
 below_scale true p true q h k = ltb_scale q p h k
 
 pub lt_whole : (s : Bool) (m : ℕ) (e : ℤ) (x : Float) (t : Bool) (k : ℕ) → HasValue x t k 1 → lt (fin s m e) x ≡ below s (m * up e) t (k * down e)
@@ -166,14 +166,14 @@ against_plus : (s : Bool) (a c w k : ℕ) → 0 < c → a ≤ 256 * c → w ≡ 
 against_plus false a c w k p h e = plus a (12582912 * c) (k * c) (w * c) (ap (λ (z : ℕ). z * c) e ∙ add-mul 12582912 k c)
   where
     plus : (a x y z : ℕ) → z ≡ x + y → ltb a y ≡ ltb (x + a) z
-    plus a x y z e = alike (ltb a y) (ltb (x + a) z) (λ u. lt-ltb (x + a) z (omega (arith, ltb-true a y u))) (λ u. lt-ltb a y (omega (arith, ltb-true (x + a) z u)))
+    plus a x y z e = both_ways (ltb a y) (ltb (x + a) z) (λ u. lt-ltb (x + a) z (omega (arith, ltb-true a y u))) (λ u. lt-ltb a y (omega (arith, ltb-true (x + a) z u)))
 against_plus true a c w k p h e = minus a (12582912 * c) (k * c) (w * c) (most a c p h) (ap (λ (z : ℕ). z * c) e ∙ add-mul 12582912 k c)
   where
     most : (a c : ℕ) → 0 < c → a ≤ 256 * c → a < 12582912 * c
     most a c p h = omega arith
 
     minus : (a x y z : ℕ) → a < x → z ≡ x + y → ltb 0 (a + y) ≡ ltb (x - a) z
-    minus a x y z l e = alike (ltb 0 (a + y)) (ltb (x - a) z) (λ u. lt-ltb (x - a) z (omega (arith, ltb-true 0 (a + y) u))) (λ u. lt-ltb 0 (a + y) (omega (arith, ltb-true (x - a) z u)))
+    minus a x y z l e = both_ways (ltb 0 (a + y)) (ltb (x - a) z) (λ u. lt-ltb (x - a) z (omega (arith, ltb-true 0 (a + y) u))) (λ u. lt-ltb 0 (a + y) (omega (arith, ltb-true (x - a) z u)))
 
 against_minus : (s : Bool) (a c w k : ℕ) → 0 < c → a ≤ 256 * c → 12582912 ≡ w + k → below s a true (k * c) ≡ ltb (lifted s a c) (w * c)
 against_minus false a c w k p h e = sym (le-ltb (12582912 * c + a) (w * c) (none a (12582912 * c) (k * c) (w * c) (ap (λ (z : ℕ). z * c) e ∙ add-mul w k c)))
@@ -186,7 +186,7 @@ against_minus true a c w k p h e = minus a (12582912 * c) (k * c) (w * c) (most 
     most a c p h = omega arith
 
     minus : (a x y z : ℕ) → a < x → x ≡ z + y → ltb y a ≡ ltb (x - a) z
-    minus a x y z l e = alike (ltb y a) (ltb (x - a) z) (λ u. lt-ltb (x - a) z (omega (arith, ltb-true y a u))) (λ u. lt-ltb y a (omega (arith, ltb-true (x - a) z u)))
+    minus a x y z l e = both_ways (ltb y a) (ltb (x - a) z) (λ u. lt-ltb (x - a) z (omega (arith, ltb-true y a u))) (λ u. lt-ltb y a (omega (arith, ltb-true (x - a) z u)))
 
 within : (s : Bool) (a c : ℕ) → a ≤ cond s 128 256 * c → a ≤ 256 * c
 within true a c h = omega arith

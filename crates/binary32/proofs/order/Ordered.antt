@@ -10,7 +10,7 @@ use lib.Dec.{T, ltb, eqb}
 use lib.Ieee.{Float, nan, inf, fin, binary32, up, down, below, level, neg, add, lt, eq, fits, is_nan, of_bits}
 use lib.Ieee.Fits.{down_pos}
 use Rattle.binary32.specs.Binary32.{minus_sign, before, max_of, min_of}
-use Rattle.flags.specs.FlagsLaws.{both_true}
+use Rattle.std.proofs.lemmas.Bool.{and_parts}
 use Rattle.binary32.specs.CompareLaws.{lt_left, lt_right, eq_right, first_zero, zero_of, level_sym, eq_sym}
 
 -- ---- the larger, by the tests of the code
@@ -46,7 +46,7 @@ same_sign (fin false m e) (fin t n d) h z = refl
 same_sign (fin true m e) (fin true n d) h z = refl
 same_sign (fin true m e) (fin false n d) h z =
     let a = m * up e * down d in
-    let none : m * up e ≡ 0 = first_zero (m * up e) (down d) (down_pos d) (eqb-true a 0 (both_true (eqb a (n * up d * down e)) (eqb a 0) h).1) in
+    let none : m * up e ≡ 0 = first_zero (m * up e) (down d) (down_pos d) (eqb-true a 0 (and_parts (eqb a (n * up d * down e)) (eqb a 0) h).1) in
     let at : (u v : ℕ) → u ≡ 0 → v ≡ 0 → level true u false v ≡ true = λ u v p q. ap (λ (k : ℕ). level true k false v) p ∙ ap (λ (k : ℕ). level true 0 false k) q in
     sym (at (m * up e * 1) (0 * 1 * down e) (mul-one (m * up e) ∙ none) (zero-mul (down e))) ∙ z
 
