@@ -9,12 +9,9 @@ use Rattle.vectors.specs.Vectors.{at, plus_of, times_of, over_of, dot_of, cross_
 use Rattle.lighting.specs.declared.Light.{Light}
 use Rattle.lighting.specs.declared.Lighting.{Lighting}
 use Rattle.lighting.specs.declared.Lookup.{Lookup}
-use Rattle.lighting.specs.declared.OptionalLookup.{OptionalLookup}
-use Rattle.lighting.specs.declared.OptionalLookup.TheVariants.{Missing, Present}
-use Rattle.lighting.specs.declared.OptionalShadow.TheVariants.{Unshadowed}
+use Rattle.std.specs.Prelude.{Option, None, Some}
 use Rattle.lighting.specs.declared.Bump.TheVariants.{Flat}
 use Rattle.lighting.specs.declared.Distance.{Distance}
-use Rattle.lighting.specs.declared.Distance.TheVariants.{Without, Scaled}
 use Rattle.lighting.specs.Lighting.{light_at}
 use Rattle.shading.specs.Shade.{map_or, is_some_and, shadow_of, bumped, surface_normal_of, surface_tangent_of, lookup_at, distance_of, sided, value_of, results_of, with_light, with_lights, shade, colours}
 
@@ -38,7 +35,7 @@ abbrev eight : Lighting → List ℕ → List ℕ
 eight l tables = shade l tables (float0 ∷ none) none texels
 
 -- a directional light
-abbrev light : List Float → List Float → List Float → Distance → ℕ → Light
+abbrev light : List Float → List Float → List Float → Option Distance → ℕ → Light
 light direction diffuse ambient distance number =
     record {
       specular0 = none;
@@ -64,19 +61,19 @@ ahead = float0 ∷ float0 ∷ float1 ∷ []
 abbrev lookup : Lookup
 lookup = record { input = 6; absolute = false; scale = float1 }
 
-abbrev lit : List Light → ℕ → OptionalLookup → Lighting
+abbrev lit : List Light → ℕ → Option Lookup → Lighting
 lit lights count fresnel =
     record {
       lights = lights;
       light_count = count;
       global_ambient = none;
       config = 0;
-      distribution0 = Missing;
-      distribution1 = Missing;
+      distribution0 = None;
+      distribution1 = None;
       fresnel = fresnel;
-      reflect_red = Missing;
-      reflect_green = Missing;
-      reflect_blue = Missing;
+      reflect_red = None;
+      reflect_green = None;
+      reflect_blue = None;
       spotlight = lookup;
       fresnel_primary = true;
       fresnel_secondary = false;
@@ -84,7 +81,7 @@ lit lights count fresnel =
       needs_half = false;
       needs_view = false;
       bump = Flat;
-      shadow = Unshadowed;
+      shadow = None;
     }
 
 -- the tables, with value and step words at the entry of one table and at that of another, and every other entry 0
@@ -96,15 +93,15 @@ tables table entry other place =
 
 abbrev two_lamps : Lighting
 two_lamps =
-    lit (light ahead white none (Scaled float1 float0) 3 ∷ light ahead none none Without 1 ∷ []) 2 (Present lookup)
+    lit (light ahead white none (Some (record { bias = float1; scale = float0 })) 3 ∷ light ahead none none None 1 ∷ []) 2 (Some lookup)
 
 record Cases : Type 0 where
   -- document 01's whole case: 255 255 255 255 0 0 0 255
-  white_lamp : eight (lit (light ahead white none Without 0 ∷ []) 1 Missing) [] ≡ 255 ∷ 255 ∷ 255 ∷ 255 ∷ 0 ∷ 0 ∷ 0 ∷ 255 ∷ []
+  white_lamp : eight (lit (light ahead white none None 0 ∷ []) 1 None) [] ≡ 255 ∷ 255 ∷ 255 ∷ 255 ∷ 0 ∷ 0 ∷ 0 ∷ 255 ∷ []
   -- as the Rust returns it: 1 1 1 1 0 0 0 1
-  white-colours : colours (lit (light ahead white none Without 0 ∷ []) 1 Missing) [] (float0 ∷ none) none texels ≡ float1 ∷ float1 ∷ float1 ∷ float1 ∷ float0 ∷ float0 ∷ float0 ∷ float1 ∷ []
+  white-colours : colours (lit (light ahead white none None 0 ∷ []) 1 None) [] (float0 ∷ none) none texels ≡ float1 ∷ float1 ∷ float1 ∷ float1 ∷ float0 ∷ float0 ∷ float0 ∷ float1 ∷ []
   -- NaN facing a one-sided light is 0, and ambient survives
-  nan_facing : eight (lit (light (nan ∷ nan ∷ nan ∷ []) white grey Without 0 ∷ []) 1 Missing) [] ≡ 127 ∷ 127 ∷ 127 ∷ 255 ∷ 0 ∷ 0 ∷ 0 ∷ 255 ∷ []
+  nan_facing : eight (lit (light (nan ∷ nan ∷ nan ∷ []) white grey None 0 ∷ []) 1 None) [] ≡ 127 ∷ 127 ∷ 127 ∷ 255 ∷ 0 ∷ 0 ∷ 0 ∷ 255 ∷ []
   -- distance place 1 reads entry 255 with delta 1, in the table of the light's number, which is not its slot: 0.75. Fresnel sets the alpha whose flag is set: 0.5
   looked_up : eight two_lamps (tables 19 255 3 0) ≡ 191 ∷ 191 ∷ 191 ∷ 127 ∷ 0 ∷ 0 ∷ 0 ∷ 255 ∷ []
   -- after the first of two slots alpha is still 1

@@ -1,5 +1,5 @@
 -- The law's `shade` is what the code's steps compute. By unfolding, and by cases on what the law and the steps match on. Assumes nothing.
-use Rattle.std.specs.Prelude.{◌≡◌, ℕ, zero, suc, ◌+◌, Bool, true, false, cond, ◌&&◌, ◌||◌, List, [], ◌∷◌, ◌==◌, nat_eq, slice_index_or, Float}
+use Rattle.std.specs.Prelude.{◌≡◌, ℕ, zero, suc, ◌+◌, Bool, true, false, cond, ◌&&◌, ◌||◌, List, [], ◌∷◌, ◌==◌, nat_eq, slice_index_or, Float, Option, None, Some, is_some}
 use Rattle.std.proofs.Math.Path.{refl, ap}
 use Rattle.std.proofs.Common.{◌∙◌}
 use Rattle.std.proofs.Math.Numerals.{add-one}
@@ -14,26 +14,22 @@ use Rattle.lighting.specs.declared.Lookup.{Lookup}
 use Rattle.lighting.specs.declared.Bump.{Bump}
 use Rattle.lighting.specs.declared.Bump.TheVariants.{Flat, Normal, Tangent}
 use Rattle.lighting.specs.declared.Distance.{Distance}
-use Rattle.lighting.specs.declared.Distance.TheVariants.{Without, Scaled}
-use Rattle.lighting.specs.declared.OptionalLookup.{OptionalLookup}
-use Rattle.lighting.specs.declared.OptionalLookup.TheVariants.{Missing, Present}
-use Rattle.lighting.specs.declared.OptionalShadow.{OptionalShadow}
-use Rattle.lighting.specs.declared.OptionalShadow.TheVariants.{Unshadowed, Shadowed}
+use Rattle.lighting.specs.declared.Shadow.{Shadow}
 use Rattle.lighting.specs.Lighting.{slot_of, bump_unit, shadow_unit, light_at, table_distribution0, table_distribution1, table_fresnel, table_reflect_blue, table_reflect_green, table_reflect_red, table_spotlight}
 use Rattle.surface.specs.declared.Frame.{Frame}
 use Rattle.light_steps.specs.declared.types.Sums.{Sums}
 use Rattle.light_steps.specs.declared.types.Values.{Values}
 use Rattle.surface.specs.Steps.{inverted, shadow_texel, perturbed, rebuilt_z, rebuilt, surface_normal, surface_tangent, quaternion_norm, quaternion_over, unit_quaternion, tangent_of, unit_if, frame_of, light_vector, half_of, directions_of, offset_of, offset_norm}
-use Rattle.shading.specs.Steps.{primary_of, secondary_of, alpha_of, texel_of, lighting_lookups, lighting_settings, lighting_frame, lighting_shadow, finished_of, shadowed_alpha, finish_of, sums_by, shade_by, shade_of}
-use Rattle.light_steps.specs.Steps.{facing_of, highlights_of, factor_by, factor_of, place_of, input_of, distance_place, along_tangent, inputs_by, inputs_of, present, diffuse_of, times_if, specular0_of, reflected_of, specular1_of, specular_by, specular_of, shadow_for, added_of, summed_of, with_values, with_values_by, step_of, lookup_value, value_if, distance_by, spot_value, fresnel_value, distance_value, values_by, values_of}
-use Rattle.shading.specs.Shade.{map_or, is_some_and, shadow_of, bumped, surface_normal_of, surface_tangent_of, lookup_at, distance_of, sided, value_of, results_of, with_light, with_lights, shade}
+use Rattle.shading.specs.Steps.{texel_of, lighting_lookups, lighting_settings, lighting_frame, lighting_shadow, finished_of, shadowed_alpha, finish_of, sums_by, shade_by, shade_of}
+use Rattle.light_steps.specs.Steps.{facing_of, highlights_of, factor_by, factor_of, place_of, input_of, distance_place, along_tangent, inputs_by, inputs_of, diffuse_of, times_if, specular0_of, reflected_of, specular1_of, specular_by, specular_of, shadow_for, added_of, summed_of, with_values, with_values_by, step_of, lookup_value, value_if, distance_by, spot_value, fresnel_value, distance_value, values_by, values_of}
+use Rattle.shading.specs.Shade.{map_or, shadow_of, bumped, surface_normal_of, surface_tangent_of, lookup_at, distance_of, sided, value_of, results_of, with_light, with_lights, shade}
 
 -- ---- before the lights
 
-shadow_law : (s : OptionalShadow) (textures : List (List Float)) → shadow_of s textures ≡ shadow_texel s (texel_of textures (shadow_unit s))
+shadow_law : (s : Option Shadow) (textures : List (List Float)) → shadow_of s textures ≡ shadow_texel s (texel_of textures (shadow_unit s))
 unfolding shadow_of shadow_texel inverted shadow_unit
-shadow_law Unshadowed textures = refl
-shadow_law (Shadowed s) textures = refl
+shadow_law None textures = refl
+shadow_law (Some s) textures = refl
 
 normal_law : (b : Bump) (textures : List (List Float)) → surface_normal_of b textures ≡ surface_normal b (texel_of textures (bump_unit b))
 unfolding surface_normal_of bumped surface_normal rebuilt rebuilt_z perturbed bump_unit
@@ -47,28 +43,13 @@ tangent_law Flat textures = refl
 tangent_law (Normal unit rebuild) textures = refl
 tangent_law (Tangent unit) textures = refl
 
-primary_law : (s : OptionalShadow) → is_some_and s (λ s. s.primary) ≡ primary_of s
-unfolding is_some_and primary_of
-primary_law Unshadowed = refl
-primary_law (Shadowed s) = refl
-
-secondary_law : (s : OptionalShadow) → is_some_and s (λ s. s.secondary) ≡ secondary_of s
-unfolding is_some_and secondary_of
-secondary_law Unshadowed = refl
-secondary_law (Shadowed s) = refl
-
-alpha_law : (s : OptionalShadow) → is_some_and s (λ s. s.alpha) ≡ alpha_of s
-unfolding is_some_and alpha_of
-alpha_law Unshadowed = refl
-alpha_law (Shadowed s) = refl
-
 -- ---- the tables
 
-distance_law : (tables : List ℕ) (number : LightNumber) (d : Distance) (position view : List Float)
+distance_law : (tables : List ℕ) (number : LightNumber) (d : Option Distance) (position view : List Float)
     → distance_of tables number d position view ≡ distance_by tables d number (offset_norm view position)
 unfolding distance_of distance_by distance_place lookup_at offset_norm offset_of
-distance_law tables number Without position view = refl
-distance_law tables number (Scaled bias scale) position view = refl
+distance_law tables number None position view = refl
+distance_law tables number (Some distance) position view = refl
 
 -- the code's list of inputs has two zeros more, for the inputs 6 and 7
 results_law : (a b c d e f : Float) (n : ℕ) → slice_index_or (a ∷ b ∷ c ∷ d ∷ e ∷ f ∷ []) n float0 ≡ slice_index_or (a ∷ b ∷ c ∷ d ∷ e ∷ f ∷ float0 ∷ float0 ∷ []) n float0
@@ -94,21 +75,21 @@ module _ (tables : List ℕ) (twoSided : Bool) (a b c d e f : Float) where
       ≡ cond spotlight (lookup_value tables table lookup twoSided (a ∷ b ∷ c ∷ d ∷ e ∷ f ∷ float0 ∷ float0 ∷ [])) float1
   spot_law table lookup spotlight = rw (value_law table lookup)
 
-  lookup_law : (table : ℕ) (lookup : OptionalLookup) (missing instead : Float) → missing ≡ instead
+  lookup_law : (table : ℕ) (lookup : Option Lookup) (missing instead : Float) → missing ≡ instead
       → map_or lookup missing (λ l. value_of tables twoSided (a ∷ b ∷ c ∷ d ∷ e ∷ f ∷ []) l table)
       ≡ value_if tables table lookup twoSided (a ∷ b ∷ c ∷ d ∷ e ∷ f ∷ float0 ∷ float0 ∷ []) instead
   unfolding map_or value_if
-  lookup_law table Missing missing instead h = h
-  lookup_law table (Present lookup) missing instead h = value_law table lookup
+  lookup_law table None missing instead h = h
+  lookup_law table (Some lookup) missing instead h = value_law table lookup
 
-  fresnel_law : (table : ℕ) (last flag : Bool) (lookup : OptionalLookup) (alpha : Float)
+  fresnel_law : (table : ℕ) (last flag : Bool) (lookup : Option Lookup) (alpha : Float)
       → cond (last && flag) (map_or lookup alpha (λ l. value_of tables twoSided (a ∷ b ∷ c ∷ d ∷ e ∷ f ∷ []) l table)) alpha
-      ≡ cond ((last && present lookup) && flag) (cond last (value_if tables table lookup twoSided (a ∷ b ∷ c ∷ d ∷ e ∷ f ∷ float0 ∷ float0 ∷ []) float1) float1) alpha
-  unfolding map_or value_if present
-  fresnel_law table true true Missing alpha = refl
-  fresnel_law table true true (Present lookup) alpha = value_law table lookup
-  fresnel_law table true false Missing alpha = refl
-  fresnel_law table true false (Present lookup) alpha = refl
+      ≡ cond ((last && is_some lookup) && flag) (cond last (value_if tables table lookup twoSided (a ∷ b ∷ c ∷ d ∷ e ∷ f ∷ float0 ∷ float0 ∷ []) float1) float1) alpha
+  unfolding map_or value_if
+  fresnel_law table true true None alpha = refl
+  fresnel_law table true true (Some lookup) alpha = value_law table lookup
+  fresnel_law table true false None alpha = refl
+  fresnel_law table true false (Some lookup) alpha = refl
   fresnel_law table false flag lookup alpha = refl
 
 -- ---- one light
@@ -192,8 +173,8 @@ module _ (self : Lighting) (tables : List ℕ) (view normal tangent normView sha
       assembled_law light half facing (highlights_of self.clamp_highlights facing) shadow sums values
       (specular0_law light half facing distribution0)
       (specular1_law light half facing values)
-      (primary_law self.shadow)
-      (secondary_law self.shadow)
+      refl
+      refl
       (fresnel table_fresnel last self.fresnel_primary self.fresnel (at sums.diffuse 3))
       (fresnel table_fresnel last self.fresnel_secondary self.fresnel (at sums.specular 3))
 
@@ -213,4 +194,4 @@ pub shade_law : (self : Lighting) (tables : List ℕ) (quaternion view : List Fl
     → shade self tables quaternion view textures ≡ shade_of self tables quaternion view textures
 unfolding shade shade_of shade_by finished_of finish_of lighting_frame frame_of lighting_shadow unit_quaternion quaternion_over quaternion_norm tangent_of unit_if shadowed_alpha
 shade_law self tables quaternion view textures =
-    rw (shadow_law self.shadow textures, normal_law self.bump textures, tangent_law self.bump textures, alpha_law self.shadow, sums_law)
+    rw (shadow_law self.shadow textures, normal_law self.bump textures, tangent_law self.bump textures, sums_law)

@@ -4,7 +4,7 @@
 -- A vector, a quaternion, a texel and a sum are lists of floats, and `at v i` is v[i]. ⊕ ⊖ ⊗ ⊘ are binary32's + − · /, each rounded once.
 -- From elsewhere: max, min, clamp, the places in a table and the quantised channel (Binary32), root (Root), dot, normalized, rotate (Vectors), a table's
 -- value + step · delta (Tables), and the tables' numbers (Lighting).
-use Rattle.std.specs.Prelude.{ℕ, zero, suc, ◌+◌, Bool, false, cond, ◌&&◌, List, [], ◌∷◌, ◌++◌, map, length, get_or, ◌==◌, nat_eq, slice_index_or, Float, if◌then◌else◌}
+use Rattle.std.specs.Prelude.{ℕ, zero, suc, ◌+◌, Bool, false, cond, ◌&&◌, List, [], ◌∷◌, ◌++◌, map, length, get_or, ◌==◌, nat_eq, slice_index_or, Float, Option, None, Some, if◌then◌else◌}
 use Rattle.std.specs.Float.Ieee.{eq, lt, neg}
 use Rattle.refusals.specs.Refusals.{tables_refusal, answer_refusal, ◌else◌}
 use Rattle.binary32.specs.Binary32.{float0, float1, magnitude_of, max_of, min_of, clamp_of, unsigned_place_of, signed_place_of, quantized_of, channel_of}
@@ -22,11 +22,6 @@ use Rattle.lighting.specs.declared.Shadow.{Shadow}
 use Rattle.lighting.specs.declared.Bump.{Bump}
 use Rattle.lighting.specs.declared.Bump.TheVariants.{Flat, Normal, Tangent}
 use Rattle.lighting.specs.declared.Distance.{Distance}
-use Rattle.lighting.specs.declared.Distance.TheVariants.{Without, Scaled}
-use Rattle.lighting.specs.declared.OptionalLookup.{OptionalLookup}
-use Rattle.lighting.specs.declared.OptionalLookup.TheVariants.{Missing, Present}
-use Rattle.lighting.specs.declared.OptionalShadow.{OptionalShadow}
-use Rattle.lighting.specs.declared.OptionalShadow.TheVariants.{Unshadowed, Shadowed}
 use Rattle.block.specs.Block.{lighting_refusal}
 
 -- ---- Rust's forms
@@ -43,21 +38,21 @@ abbrev pub colour : (ℕ → Float) → Float → List Float
 colour f alpha = f 0 ∷ f 1 ∷ f 2 ∷ alpha ∷ []
 
 -- lookup.map_or(missing, read)
-unfoldable pub map_or : OptionalLookup → Float → (Lookup → Float) → Float
-map_or Missing missing read = missing
-map_or (Present lookup) missing read = read lookup
+unfoldable pub map_or : Option Lookup → Float → (Lookup → Float) → Float
+map_or None missing read = missing
+map_or (Some lookup) missing read = read lookup
 
 -- shadow.is_some_and(flag)
-unfoldable pub is_some_and : OptionalShadow → (Shadow → Bool) → Bool
-is_some_and Unshadowed flag = false
-is_some_and (Shadowed s) flag = flag s
+unfoldable pub is_some_and : Option Shadow → (Shadow → Bool) → Bool
+is_some_and None flag = false
+is_some_and (Some s) flag = flag s
 
 -- ---- Before the lights
 
 -- shadow: 1, 1, 1, 1 without one; else the texel of its unit, each channel taken from 1 where it is inverted.
-unfoldable pub shadow_of : OptionalShadow → List (List Float) → List Float
-shadow_of Unshadowed textures = four (λ i. float1)
-shadow_of (Shadowed s) textures =
+unfoldable pub shadow_of : Option Shadow → List (List Float) → List Float
+shadow_of None textures = four (λ i. float1)
+shadow_of (Some s) textures =
     let texel = get_or textures s.unit [] in
     if s.invert then four (λ i. float1 ⊖ at texel i) else texel
 
@@ -87,11 +82,11 @@ unfoldable pub lookup_at : List ℕ → ℕ → Place → Float
 lookup_at tables table place = table_lookup tables table place.entry place.delta
 
 -- distance: 1 without one; else the light's own table, by its number, at the norm of −view − position, scaled, biased and clamped 0 to 1.
-unfoldable pub distance_of : List ℕ → LightNumber → Distance → List Float → List Float → Float
-distance_of tables number Without position view = float1
-distance_of tables number (Scaled bias scale) position view =
+unfoldable pub distance_of : List ℕ → LightNumber → Option Distance → List Float → List Float → Float
+distance_of tables number None position view = float1
+distance_of tables number (Some distance) position view =
     let offset = three (λ i. neg (at view i) ⊖ at position i) in
-    let place = clamp_of (scale ⊗ root_of (dot_of offset offset) ⊕ bias) float0 float1 in
+    let place = clamp_of (distance.scale ⊗ root_of (dot_of offset offset) ⊕ distance.bias) float0 float1 in
     lookup_at tables (table_distance + number.0) (unsigned_place_of place)
 
 -- A two-sided light takes the magnitude; another takes nothing below 0, and 0 for NaN.

@@ -1,32 +1,17 @@
 -- What the code computes of a fragment's shading, step by step; nobody has to trust it: `shade_law` (ShadeLaws) ties it to Shade. Definitions only.
-use Rattle.std.specs.Prelude.{ℕ, zero, suc, ◌<◌, Bool, false, cond, ◌&&◌, List, [], ◌∷◌, get_or, ◌==◌, slice_index_or, Float}
+use Rattle.std.specs.Prelude.{ℕ, zero, suc, ◌<◌, Bool, cond, ◌&&◌, List, [], ◌∷◌, get_or, ◌==◌, slice_index_or, Float}
 use Rattle.binary32.specs.Binary32.{float0, float1, quantized_of}
 use Rattle.vectors.specs.Vectors.{at, ◌⊕◌, ◌⊗◌}
 use Rattle.lighting.specs.Lighting.{bump_unit, shadow_unit, no_light}
 use Rattle.lighting.specs.declared.Light.{Light}
 use Rattle.lighting.specs.declared.Lighting.{Lighting}
-use Rattle.lighting.specs.declared.OptionalShadow.{OptionalShadow}
-use Rattle.lighting.specs.declared.OptionalShadow.TheVariants.{Unshadowed, Shadowed}
 use Rattle.surface.specs.Steps.{shadow_texel, frame_of}
 use Rattle.surface.specs.declared.Frame.{Frame}
 use Rattle.light_steps.specs.declared.types.LightingLookups.{LightingLookups}
 use Rattle.light_steps.specs.declared.types.Settings.{Settings}
 use Rattle.light_steps.specs.declared.types.Sums.{Sums}
 use Rattle.light_steps.specs.Steps.{step_of}
-
--- ---- what a shadow applies to
-
-unfoldable pub primary_of : OptionalShadow → Bool
-primary_of Unshadowed = false
-primary_of (Shadowed s) = s.primary
-
-unfoldable pub secondary_of : OptionalShadow → Bool
-secondary_of Unshadowed = false
-secondary_of (Shadowed s) = s.secondary
-
-unfoldable pub alpha_of : OptionalShadow → Bool
-alpha_of Unshadowed = false
-alpha_of (Shadowed s) = s.alpha
+use Rattle.shading.specs.Shade.{is_some_and}
 
 -- ---- what shading takes of a lighting
 
@@ -48,8 +33,8 @@ unfoldable pub lighting_settings : Lighting → List Float → Settings
 lighting_settings l shadow =
     record {
       clamp_highlights = l.clamp_highlights;
-      shadow_primary = primary_of l.shadow;
-      shadow_secondary = secondary_of l.shadow;
+      shadow_primary = is_some_and l.shadow (λ s. s.primary);
+      shadow_secondary = is_some_and l.shadow (λ s. s.secondary);
       shadow = shadow;
       fresnel_primary = l.fresnel_primary;
       fresnel_secondary = l.fresnel_secondary;
@@ -104,7 +89,7 @@ finish_of sums alpha primary secondary shadow ambient =
 -- the channels from the sums
 unfoldable pub finished_of : Lighting → Sums → List Float → List ℕ
 finished_of l sums shadow =
-    finish_of sums (alpha_of l.shadow) l.fresnel_primary l.fresnel_secondary shadow l.global_ambient
+    finish_of sums (is_some_and l.shadow (λ s. s.alpha)) l.fresnel_primary l.fresnel_secondary shadow l.global_ambient
 
 -- ---- the whole
 

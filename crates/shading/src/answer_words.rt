@@ -7,9 +7,5 @@ pub fn put(answer: &mut [u32], at: usize, k: [u32; 8])
     requires { (at + 8 ≤ length answer.old) × (at + 8 < 0x10000000000000000) }
     ensures { answer.new ≡ take at answer.old ++ (k ++ drop (at + 8) answer.old) }
 {
-    let mut j = 0;
-    while j < 8 {
-        answer[at + j] = k[j];
-        j += 1;
-    }
+    answer[at..at + 8].copy_from_slice(&k);
 }

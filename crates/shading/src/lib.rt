@@ -14,7 +14,7 @@ ghost use Rattle.sources.specs.Steps.{given};
 ghost use Rattle.shading.specs.Steps.{shade_by, shade_of};
 
 use lighting::Lighting;
-use refusals::{Outcome, Refusal};
+use refusals::Refusal;
 use surface::Frame;
 
 // The eight channels, 0 to 255, in the printed order, from the frame and the shadow.
@@ -29,7 +29,6 @@ pub fn shade_by(
     requires { (length (given tables.now bytes.now) ≡ 12288) × (in_range l ≡ true) }
     ensures { result ≡ shade_by (given tables.now bytes.now) l frame shadow }
 {
-    let lights = l.lights;
     let lookups = parts::lookups_of(l);
     let settings = parts::settings_of(l, shadow);
     let sums = sums::sum_lights(
@@ -38,13 +37,14 @@ pub fn shade_by(
         lookups,
         frame,
         settings,
-        lights,
+        l.lights,
         l.light_count,
     );
     parts::finished(l, sums, shadow)
 }
 
 // From the quaternion, the view and the texels.
+#[tactic(auto, unfolding(crate::specs::Steps::shade_of))]
 fn shade_in_range(
     l: Lighting,
     tables: &[u32],
@@ -63,6 +63,7 @@ fn shade_in_range(
 
 // The eight channels of a fragment, 0 to 255, in the printed order, or a refusal and the answer as it
 // was.
+#[tactic(auto, using(crate::proofs::Answers::wrong_tables, crate::proofs::Answers::wrong_answer, crate::proofs::Answers::refused, crate::proofs::Answers::counted, crate::proofs::Answers::eight, block::proofs::AcceptedLaws::accepted_range))]
 pub fn shade(
     lighting: Lighting,
     tables: &[u32],
@@ -70,23 +71,23 @@ pub fn shade(
     view: [f32; 3],
     texels: [[f32; 4]; 4],
     answer: &mut [u32],
-) -> Outcome
+) -> Result<(), Refusal>
     ensures { shaded (outcome_number result) answer.new ≡ shades lighting tables.now quaternion view texels answer.old }
 {
     if tables.len() != 12288 {
-        return Outcome::Refused(Refusal::WrongTables);
+        return Err(Refusal::WrongTables);
     }
     if answer.len() != 8 {
-        return Outcome::Refused(Refusal::WrongFragment);
+        return Err(Refusal::WrongFragment);
     }
-    if block::accepted::acceptable(lighting) {
-        let none = [0u8; 0];
-        answer_words::put(
-            answer,
-            0,
-            shade_in_range(lighting, tables, &none, quaternion, view, texels),
-        );
-        return Outcome::Done;
+    if !block::accepted::acceptable(lighting) {
+        return Err(Refusal::NotWellFormed);
     }
-    Outcome::Refused(Refusal::NotWellFormed)
+    let none = [0u8; 0];
+    answer_words::put(
+        answer,
+        0,
+        shade_in_range(lighting, tables, &none, quaternion, view, texels),
+    );
+    Ok(())
 }

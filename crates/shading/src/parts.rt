@@ -1,72 +1,39 @@
 // What shading takes of a lighting: the lookups, the settings of the sums, the frame and the shadow from the texels, and the end.
 ghost use Rattle.std.specs.Prelude.{◌≡◌, ◌≤◌, true};
 ghost use Rattle.lighting.specs.Lighting.{in_range};
-ghost use Rattle.shading.specs.Steps.{primary_of, secondary_of, alpha_of, lighting_lookups, lighting_settings, lighting_frame, lighting_shadow, texel_of, finished_of};
+ghost use Rattle.shading.specs.Steps.{lighting_lookups, lighting_settings, lighting_frame, lighting_shadow, texel_of, finished_of};
 
 use crate::channels;
 use light_steps::types::{LightingLookups, Settings, Sums};
-use lighting::{Lighting, OptionalShadow};
+use lighting::Lighting;
 use surface::Frame;
 
+#[tactic(auto, unfolding(crate::specs::Steps::lighting_lookups))]
 pub fn lookups_of(l: Lighting) -> LightingLookups
     ensures { result ≡ lighting_lookups l }
 {
-    let distribution0 = l.distribution0;
-    let distribution1 = l.distribution1;
-    let fresnel = l.fresnel;
-    let reflect_red = l.reflect_red;
-    let reflect_green = l.reflect_green;
-    let reflect_blue = l.reflect_blue;
-    let spotlight = l.spotlight;
     LightingLookups {
         config: l.config,
         needs_half: l.needs_half,
-        distribution0,
-        distribution1,
-        fresnel,
-        reflect_red,
-        reflect_green,
-        reflect_blue,
-        spotlight,
+        distribution0: l.distribution0,
+        distribution1: l.distribution1,
+        fresnel: l.fresnel,
+        reflect_red: l.reflect_red,
+        reflect_green: l.reflect_green,
+        reflect_blue: l.reflect_blue,
+        spotlight: l.spotlight,
     }
 }
 
-// What the shadow applies to: nothing where there is none.
-fn primary_of(shadow: OptionalShadow) -> bool
-    ensures { result ≡ primary_of shadow }
-{
-    match shadow {
-        OptionalShadow::Unshadowed => false,
-        OptionalShadow::Shadowed(s) => s.primary,
-    }
-}
-
-fn secondary_of(shadow: OptionalShadow) -> bool
-    ensures { result ≡ secondary_of shadow }
-{
-    match shadow {
-        OptionalShadow::Unshadowed => false,
-        OptionalShadow::Shadowed(s) => s.secondary,
-    }
-}
-
-fn alpha_of(shadow: OptionalShadow) -> bool
-    ensures { result ≡ alpha_of shadow }
-{
-    match shadow {
-        OptionalShadow::Unshadowed => false,
-        OptionalShadow::Shadowed(s) => s.alpha,
-    }
-}
-
+// The shadow applies to nothing where there is none.
+#[tactic(auto, unfolding(crate::specs::Steps::lighting_settings, crate::specs::Shade::is_some_and))]
 pub fn settings_of(l: Lighting, shadow: [f32; 4]) -> Settings
     ensures { result ≡ lighting_settings l shadow }
 {
-    let optional = l.shadow;
     Settings {
         clamp_highlights: l.clamp_highlights,
-        shadow_primary: primary_of(optional),
-        shadow_secondary: secondary_of(optional),
+        shadow_primary: l.shadow.is_some_and(|s| s.primary),
+        shadow_secondary: l.shadow.is_some_and(|s| s.secondary),
         shadow,
         fresnel_primary: l.fresnel_primary,
         fresnel_secondary: l.fresnel_secondary,
@@ -80,6 +47,7 @@ fn texel_of(texels: [[f32; 4]; 4], unit: usize) -> [f32; 4]
     texels[unit]
 }
 
+#[tactic(auto, using(block::proofs::PackedLaws::range_bump), unfolding(surface::specs::Steps::frame_of, crate::specs::Steps::lighting_frame))]
 pub(crate) fn frame_of(
     l: Lighting,
     quaternion: [f32; 4],
@@ -89,34 +57,31 @@ pub(crate) fn frame_of(
     requires { in_range l ≡ true }
     ensures { result ≡ lighting_frame l quaternion view texels }
 {
-    let bump = l.bump;
-    let texel = texel_of(texels, lighting::bump_unit(bump));
+    let texel = texel_of(texels, lighting::bump_unit(l.bump));
     let unit = surface::unit_quaternion(quaternion);
-    surface::frame_of(bump, texel, l.config, l.needs_view, unit, view)
+    surface::frame_of(l.bump, texel, l.config, l.needs_view, unit, view)
 }
 
+#[tactic(auto, using(block::proofs::PackedLaws::range_shadow), unfolding(crate::specs::Steps::lighting_shadow))]
 pub(crate) fn shadow_of(l: Lighting, texels: [[f32; 4]; 4]) -> [f32; 4]
     requires { in_range l ≡ true }
     ensures { result ≡ lighting_shadow l texels }
 {
-    let shadow = l.shadow;
-    let texel = texel_of(texels, lighting::shadow_unit(shadow));
-    surface::shadow::shadow_texel(shadow, texel)
+    let texel = texel_of(texels, lighting::shadow_unit(l.shadow));
+    surface::shadow::shadow_texel(l.shadow, texel)
 }
 
 // The channels from the sums.
+#[tactic(auto, unfolding(crate::specs::Steps::finished_of, crate::specs::Shade::is_some_and))]
 pub fn finished(l: Lighting, sums: Sums, shadow: [f32; 4]) -> [u32; 8]
     ensures { result ≡ finished_of l sums shadow }
 {
-    let optional = l.shadow;
-    let ambient = l.global_ambient;
-    let alpha = alpha_of(optional);
     channels::finish(
         sums,
-        alpha,
+        l.shadow.is_some_and(|s| s.alpha),
         l.fresnel_primary,
         l.fresnel_secondary,
         shadow,
-        ambient,
+        l.global_ambient,
     )
 }

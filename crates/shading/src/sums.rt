@@ -16,6 +16,7 @@ pub fn is_last(slot: Slot, count: usize) -> bool
     slot.0 + 1 == count
 }
 
+#[tactic(auto, unfolding(crate::specs::Steps::sums_by))]
 pub(crate) fn sum_lights(
     tables: &[u32],
     bytes: &[u8],
@@ -32,13 +33,10 @@ pub(crate) fn sum_lights(
         diffuse: [0.0, 0.0, 0.0, 1.0],
         specular: [0.0, 0.0, 0.0, 1.0],
     };
-    let mut slot = Slot(0);
-    while slot.0 < count {
-        let at = slot.0;
-        let light = lights[at];
-        let last = is_last(slot, count);
+    for slot in 0..count {
+        let last = is_last(Slot(slot), count);
+        let light = lights[slot];
         sums = light_steps::step(tables, bytes, lookups, frame, settings, last, light, sums);
-        slot.0 += 1;
     }
     sums
 }
