@@ -1,12 +1,13 @@
 -- For tests alone: a register file decoded and packed in one call, 1 for a short file, 100 where the lighting is off, else as packing has it. Definitions only.
-use Rattle.std.specs.Prelude.{ℕ, zero, suc, List, cond, length}
+use Rattle.std.specs.Prelude.{ℕ, zero, suc, List, length, Option, None, Some}
 use Rattle.refusals.specs.Refusals.{file_refusal}
-use Rattle.lighting.specs.declared.OptionalLighting.{OptionalLighting}
+use Rattle.lighting.specs.declared.Lighting.{Lighting}
 use Rattle.decoding.specs.Read.{read}
 use Rattle.block.specs.Block.{Packing, packing, packs}
 
-unfoldable pub pack_reading : OptionalLighting → List ℕ → Packing
-pack_reading d b = cond d.on (packs d.lighting b) (packing 100 b)
+unfoldable pub pack_reading : Option Lighting → List ℕ → Packing
+pack_reading None b = packing 100 b
+pack_reading (Some l) b = packs l b
 
 unfoldable pub pack_file_if : ℕ → List ℕ → List ℕ → Packing
 pack_file_if zero f b = pack_reading (read f) b

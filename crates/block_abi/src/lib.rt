@@ -4,32 +4,19 @@
 
 ghost use Rattle.std.specs.Prelude.{◌≡◌};
 ghost use Rattle.block.specs.Block.{packing as packing_as};
-ghost use Rattle.block_abi.specs.PackFile.{pack_reading, pack_file};
+ghost use Rattle.block_abi.specs.PackFile.{pack_file};
 ghost use Rattle.block_abi.specs.FormNumber.{form_number};
 
 use block::BlockForm;
-use lighting::OptionalLighting;
-use refusals::Outcome;
-
-// The block of a reading, or 100.
-fn pack_reading(reading: OptionalLighting, words: &mut [u32]) -> u32
-    ensures { packing_as result words.new ≡ pack_reading reading words.old }
-{
-    if reading.on {
-        return refusals::outcome_number(packing::pack(reading.lighting, words));
-    }
-    100
-}
 
 // The block of a register file's lighting.
 pub fn block_pack(file: &[u32], words: &mut [u32]) -> u32
     ensures { packing_as result words.new ≡ pack_file file.now words.old }
 {
-    let read = decoding::read(file);
-    let outcome = read.outcome;
-    match outcome {
-        Outcome::Done => pack_reading(read.decoded, words),
-        Outcome::Refused(refusal) => refusals::number(refusal),
+    match decoding::read(file) {
+        Ok(None) => 100,
+        Ok(Some(lighting)) => refusals::outcome_number(packing::pack(lighting, words)),
+        Err(refusal) => u32::from(refusal),
     }
 }
 

@@ -1,42 +1,48 @@
 -- `block_abi::block_pack` meets its contract: a refused read gives its number, and any other the reading that is packed.
-use Prim.Native.Nat.{ℕ, zero, suc}
-use native.Mathlib.Omega.{arith}
-use mathlib.Core.Path.{◌≡◌, sym, ap, ◌∙◌}
-use mathlib.Core.List.{List}
-use lib.ListN.{length}
-use Rattle.refusals.specs.Refusals.{outcome_number, file_refusal}
+use Rattle.std.proofs.Common.{ℕ, zero, suc, arith, ◌≡◌, List, length, Option, None, Some, sym, ap, ◌∙◌}
+use Rattle.refusals.specs.declared.Refusal.{Refusal}
+use Rattle.refusals.specs.Refusals.{number_of, file_refusal}
 use Rattle.tables.specs.RefusalLaws.{refusal_not_zero}
-use Rattle.decoding.specs.declared.LightingRead.{LightingRead}
-use Rattle.decoding.specs.Read.{FileRead, file_read_if, file_read, file_read_of}
-use Rattle.block.specs.Block.{packing}
+use Rattle.lighting.specs.declared.Lighting.{Lighting}
+use Rattle.lighting.specs.Lighting.{off}
+use Rattle.decoding.specs.Read.{FileRead, file_read_if, file_read}
+use Rattle.block.specs.Block.{packing, packs}
 use Rattle.block_abi.specs.PackFile.{pack_reading, pack_file_if, pack_file}
 use Rattle.block_abi.proofs.block_pack.Goals as goal
 
-module _ (f b : List ℕ) (r : LightingRead) (e : file_read_of r ≡ file_read f) where
-  read_done : outcome_number r.outcome ≡ 0 → pack_reading r.decoded b ≡ pack_file f b
+abbrev read_as : ℕ → Option Lighting → FileRead
+read_as k d = record { number = k; lighting = d }
+
+module _ (f b : List ℕ) where
+  read_done : (d : Option Lighting) → read_as 0 d ≡ file_read f → pack_reading d b ≡ pack_file f b
   unfolding pack_file_if file_read_if
-  read_done z = go (file_refusal (length f)) e
+  read_done d e = go (file_refusal (length f)) e
     where
-      go : (q : ℕ) → file_read_of r ≡ file_read_if q f → pack_reading r.decoded b ≡ pack_file_if q f b
+      go : (q : ℕ) → read_as 0 d ≡ file_read_if q f → pack_reading d b ≡ pack_file_if q f b
       go zero h = ap (λ (x : FileRead). pack_reading x.lighting b) h
-      go (suc q) h = let n : suc q ≡ 0 = sym (ap (λ (x : FileRead). x.number) h) ∙ z in absurd (omega arith)
+      go (suc q) h = let n : 0 ≡ suc q = ap (λ (x : FileRead). x.number) h in absurd (omega arith)
 
-  read_refused : (m : ℕ) → (m ≡ 0 → ⊥) → outcome_number r.outcome ≡ m → packing m b ≡ pack_file f b
+  read_off : (d : Option Lighting) → read_as 0 d ≡ file_read f → d ≡ None → packing 100 b ≡ pack_file f b
+  unfolding pack_reading
+  read_off d e n = ap (λ (x : Option Lighting). pack_reading x b) (sym n) ∙ read_done d e
+
+  read_on : (d : Option Lighting) (l : Lighting) → read_as 0 d ≡ file_read f → d ≡ Some l → packs l b ≡ pack_file f b
+  unfolding pack_reading
+  read_on d l e s = ap (λ (x : Option Lighting). pack_reading x b) (sym s) ∙ read_done d e
+
+  read_refused : (k : Refusal) → read_as (number_of k) off ≡ file_read f → packing (number_of k) b ≡ pack_file f b
   unfolding pack_file_if file_read_if
-  read_refused m h z = go (file_refusal (length f)) e
+  read_refused k e = go (file_refusal (length f)) e
     where
-      go : (q : ℕ) → file_read_of r ≡ file_read_if q f → packing m b ≡ pack_file_if q f b
-      go zero g = absurd (h (sym z ∙ ap (λ (x : FileRead). x.number) g))
-      go (suc q) g = ap (λ (k : ℕ). packing k b) (sym z ∙ ap (λ (x : FileRead). x.number) g)
+      go : (q : ℕ) → read_as (number_of k) off ≡ file_read_if q f → packing (number_of k) b ≡ pack_file_if q f b
+      go zero h = absurd (refusal_not_zero k (ap (λ (x : FileRead). x.number) h))
+      go (suc q) h = ap (λ (x : FileRead). packing x.number b) h
 
-pub returns-in-Done : goal.returns-in-Done
-returns-in-Done c =
-    let a = c.args in
-    let r = c.read-read in
-    c.pack_reading.ensures ∙ read_done a.file.now a.words.now r.result r.ensures (ap outcome_number c.in-Done.is)
+pub returns-in-Ok-None : goal.returns-in-Ok-None
+returns-in-Ok-None c = read_off _ _ _ c.in-Ok-None.ensures c.in-Ok-None.field-0-is
 
-pub returns-in-Refused : goal.returns-in-Refused
-returns-in-Refused c =
-    let a = c.args in
-    let r = c.read-read in
-    ap (λ (n : ℕ). packing n a.words.now) c.number.ensures ∙ read_refused a.file.now a.words.now r.result r.ensures _ (refusal_not_zero c.in-Refused.refusal) (ap outcome_number c.in-Refused.is)
+pub returns-in-Ok-Some : goal.returns-in-Ok-Some
+returns-in-Ok-Some c = rw c.outcome_number.ensures (c.pack.ensures ∙ read_on _ _ _ _ c.in-Ok-Some.ensures c.in-Ok-Some.field-0-is)
+
+pub returns-in-Err : goal.returns-in-Err
+returns-in-Err c = rw c.from.ensures (read_refused _ _ _ c.in-Err.ensures)
