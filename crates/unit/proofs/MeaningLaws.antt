@@ -1,7 +1,7 @@
 -- A call on lent words is the call on the cache that they mean: a read anew keeps words that mean what document 01's keeps, and the block of a
 -- cache is the one that packing the cache's lighting gives. Assumes nothing.
 use Prim.Native.Nat.{ℕ, zero, suc, ◌-◌, ◌≤◌}
-use Rattle.std.specs.Prelude.{◌≡◌, Bool, ◌||◌, eqb}
+use Rattle.std.specs.Prelude.{◌≡◌, Bool, not, ◌&&◌, ◌||◌, eqb, None, Some}
 use Rattle.std.proofs.Math.Path.{refl, ap}
 use Rattle.std.proofs.Common.{◌∙◌, length-append, length-drop, ne_eqb}
 use mathlib.Core.List.{List}
@@ -9,6 +9,7 @@ use Rattle.std.proofs.Math.Bool.{true, false, cond}
 use Rattle.std.proofs.Math.ListN.{length}
 use Rattle.std.proofs.Math.Seq.{take_at, drop_at}
 use Rattle.refusals.specs.Refusals.{file_refusal, block_refusal, ◌else◌}
+use Rattle.sources.specs.Sources.{same_words}
 use Rattle.tables.specs.RefusalLaws.{else_left}
 use Rattle.lighting.specs.Lighting.{blank_lighting, bump_unit, shadow_unit, in_range, on}
 use Rattle.lighting.specs.Forms.{every}
@@ -18,7 +19,7 @@ use Rattle.block.specs.Block.{words, all_zero, zeros, well_formed, block_reading
 use Rattle.block.specs.Claims.{WordsHeld}
 use Rattle.block.proofs.ReadLaws.{read_packs, read_accepted}
 use Rattle.unit.specs.declared.Cache.{Cache}
-use Rattle.unit.specs.Unit.{fresh_cache, cached, current, read_anew, refreshed, cached_read_if, read_number, cached_block, packs_cached, cached_read_packed_if, handed, hand_over_refusal, packable, taken, hand_over_read, hand_over_if, hand_over}
+use Rattle.unit.specs.Unit.{fresh_cache, cached, keeps, current, read_anew, refreshed, cached_read_if, read_number, cached_block, packs_cached, cached_read_packed_if, handed, hand_over_refusal, packable, taken, hand_over_read, hand_over_if, hand_over}
 use Rattle.unit.specs.HandOverLaws.{long_file, hand_over_lengths}
 use Rattle.unit.specs.DecodedLaws.{decoded_packable, decoded_reads, packed_formed, packed_length}
 use Rattle.unit.specs.CacheWords.{block_place, cache_count, cache_flag, cache_kept, cache_block, empty_words, cache_refusal, formed, current_words, anew_words, refreshed_words, cached_words_if, cached_read_words, block_number, packs_cached_words, cached_read_packed_words_if, taken_words, hand_over_words_read, hand_over_words_if, hand_over_words}
@@ -107,9 +108,18 @@ anew_keeps f long = record { long = anew_long f long; back = rw (anew_block f lo
 
 -- a read that is not refused
 module _ (f : List ℕ) (long : 474 ≤ length f) (c : List ℕ) where
+  -- a cache of words is empty where its flag is 0
+  current_means : current f (cache_of c) ≡ current_words f c
+  unfolding current keeps current_words cache_of
+  current_means = go (eqb (cache_flag c) 0)
+    where
+      go : (z : Bool) → keeps (cond z None (Some (cache_kept c))) (registers_read f) ≡ (not z && same_words (cache_kept c) (registers_read f))
+      go true = refl
+      go false = refl
+
   refreshed_means : cache_of (refreshed_words f c) ≡ refreshed f (cache_of c)
-  unfolding refreshed_words current_words refreshed current cache_of
-  refreshed_means = go (current_words f c)
+  unfolding refreshed_words refreshed
+  refreshed_means = rw current_means (go (current_words f c))
     where
       go : (x : Bool) → cache_of (cond x c (anew_words f)) ≡ cond x (cache_of c) (read_anew f)
       go true = refl

@@ -1,22 +1,18 @@
 -- Every decoded lighting that is on is packed, and its block reads back as the lighting: it lies within the limits that packing asks for.
 -- Assumes nothing.
-use Rattle.std.specs.Prelude.{ℕ, ◌≤◌, ◌≡◌, refl, List, Bool, true, false, cond, not, ◌&&◌, ◌||◌, T, length, replicate, Float}
+use Rattle.std.specs.Prelude.{ℕ, ◌≤◌, ◌≡◌, refl, List, Bool, true, false, not, ◌||◌, T, length, Float, Option, None, Some}
 use Rattle.std.proofs.Common.{arith, ◌∙◌}
 use Rattle.std.proofs.lemmas.List.{length-replicate}
 use Rattle.std.specs.Float.{binary32}
 use Rattle.std.specs.Float.Ieee.{fits, of_bits, to_bits}
 use borrow.Author.Tests.{lt-ltb, le-leb}
-use Rattle.flags.specs.FlagsLaws.{both_second}
+use Rattle.std.proofs.lemmas.Bool.{and_parts}
 use Rattle.binary32.specs.Binary32.{word_of}
 use Rattle.lighting.specs.declared.Lookup.{Lookup}
-use Rattle.lighting.specs.declared.OptionalLookup.{OptionalLookup}
-use Rattle.lighting.specs.declared.OptionalLookup.TheVariants.{Missing, Present}
 use Rattle.lighting.specs.declared.Bump.{Bump}
 use Rattle.lighting.specs.declared.Bump.TheVariants.{Flat, Normal, Tangent}
-use Rattle.lighting.specs.declared.OptionalShadow.{OptionalShadow}
-use Rattle.lighting.specs.declared.OptionalShadow.TheVariants.{Unshadowed, Shadowed}
+use Rattle.lighting.specs.declared.Shadow.{Shadow}
 use Rattle.lighting.specs.declared.Lighting.{Lighting}
-use Rattle.lighting.specs.declared.OptionalLighting.{OptionalLighting}
 use Rattle.lighting.specs.Claims.{LookupFits, LightingFits}
 use Rattle.decoding.specs.Claims.{IsScale, LookupLimits, OptionalLookupLimits, BumpLimits, ShadowLimits, Limits}
 use Rattle.decoding.specs.Read.{read}
@@ -36,9 +32,9 @@ use Rattle.block.proofs.OffLaws.{zero_block}
 scale_held : (x : Float) → IsScale x → T (fits binary32 x)
 scale_held x h = rw h.is (scale_fits h.code)
 
-lookup_held : (o : OptionalLookup) → OptionalLookupLimits o → LookupFits o
-lookup_held Missing h = tt
-lookup_held (Present l) h = scale_held l.scale h.scale
+lookup_held : (o : Option Lookup) → OptionalLookupLimits o → LookupFits o
+lookup_held None h = tt
+lookup_held (Some l) h = scale_held l.scale h.scale
 
 scale_formed_lem : (x : Float) → IsScale x → scale_formed (word_of x) ≡ true
 unfolding scale_formed to_bits of_bits
@@ -49,10 +45,10 @@ lookup_acceptable_lem : (l : Lookup) → LookupLimits l → lookup_acceptable l 
 unfolding lookup_acceptable
 lookup_acceptable_lem l h = lt-ltb l.input 8 h.input also scale_formed_lem l.scale h.scale
 
-optional_acceptable : (o : OptionalLookup) → OptionalLookupLimits o → optional_lookup_acceptable o ≡ true
+optional_acceptable : (o : Option Lookup) → OptionalLookupLimits o → optional_lookup_acceptable o ≡ true
 unfolding optional_lookup_acceptable
-optional_acceptable Missing h = refl
-optional_acceptable (Present l) h = lookup_acceptable_lem l h
+optional_acceptable None h = refl
+optional_acceptable (Some l) h = lookup_acceptable_lem l h
 
 bump_unit_lem : (b : Bump) → BumpLimits b → bump_unit b ≤ 3
 unfolding bump_unit
@@ -60,10 +56,10 @@ bump_unit_lem Flat h = omega arith
 bump_unit_lem (Normal unit rebuild) h = h
 bump_unit_lem (Tangent unit) h = h
 
-shadow_unit_lem : (s : OptionalShadow) → ShadowLimits s → shadow_unit s ≤ 3
+shadow_unit_lem : (s : Option Shadow) → ShadowLimits s → shadow_unit s ≤ 3
 unfolding shadow_unit
-shadow_unit_lem Unshadowed h = omega arith
-shadow_unit_lem (Shadowed s) h = h
+shadow_unit_lem None h = omega arith
+shadow_unit_lem (Some s) h = h
 
 half_view : (a b : Bool) → (a ≡ true → b ≡ true) → (not a || b) ≡ true
 half_view true b h = h refl
@@ -115,33 +111,24 @@ module _ (l : Lighting) (h : Limits l) where
 
 pub decoded_packable : (f : List ℕ) → packable (read f) ≡ true
 unfolding packable
-decoded_packable f = read_either (λ (d : OptionalLighting). packable d ≡ true) f limits_accepted refl
+decoded_packable f = read_either (λ (d : Option Lighting). packable d ≡ true) f limits_accepted refl
 
 -- the block of a lighting that is packed, or off, is off or well formed
-pub packed_formed : (d : OptionalLighting) → packable d ≡ true → (all_zero (words (packed_reading d)) || well_formed (words (packed_reading d))) ≡ true
+pub packed_formed : (d : Option Lighting) → packable d ≡ true → (all_zero (words (packed_reading d)) || well_formed (words (packed_reading d))) ≡ true
 unfolding packable packed_reading accepted
-packed_formed d h = go d.on h
-  where
-    block : Bool → List ℕ
-    block b = cond b (packed d.lighting) (replicate 328 0)
-
-    go : (b : Bool) → (not b || (in_range d.lighting && well_formed (words (packed d.lighting)))) ≡ true → (all_zero (words (block b)) || well_formed (words (block b))) ≡ true
-    go true e =
-        or_second (all_zero (words (packed d.lighting))) (well_formed (words (packed d.lighting))) (both_second (in_range d.lighting) _ e)
-    go false e = rw zero_block refl
+packed_formed None h = rw zero_block refl
+packed_formed (Some l) h =
+    or_second (all_zero (words (packed l))) (well_formed (words (packed l))) (and_parts (in_range l) (well_formed (words (packed l))) h).1
 
 -- the block of a file's lighting reads as that lighting
 pub decoded_reads : (f : List ℕ) → block_reading (words (packed_reading (read f))) ≡ read f
 unfolding packed_reading block_reading
 decoded_reads f =
-    read_either (λ (d : OptionalLighting). block_reading (words (packed_reading d)) ≡ d) f
+    read_either (λ (d : Option Lighting). block_reading (words (packed_reading d)) ≡ d) f
     (λ l h. packed_reads l h.eight (limits_held l h) (limits_range l h) (limits_blank l h))
     (rw zero_block refl)
 
-pub packed_length : (d : OptionalLighting) → length (packed_reading d) ≡ 328
+pub packed_length : (d : Option Lighting) → length (packed_reading d) ≡ 328
 unfolding packed_reading
-packed_length d = go d.on
-  where
-    go : (b : Bool) → length (cond b (packed d.lighting) (replicate 328 0)) ≡ 328
-    go true = length-packed d.lighting
-    go false = length-replicate {A = ℕ} 328 0
+packed_length None = length-replicate {A = ℕ} 328 0
+packed_length (Some l) = length-packed l

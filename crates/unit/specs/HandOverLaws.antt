@@ -1,14 +1,25 @@
 -- What the refusals of a hand-over tell: the first of the four by length is 0 exactly where each slice has its length. Assumes nothing.
-use Rattle.std.specs.Prelude.{ℕ, ◌≤◌, ◌≡◌, refl, ◌&&◌, leb, eqb}
+use Rattle.std.specs.Prelude.{ℕ, zero, suc, ◌≤◌, ◌≡◌, refl, ◌&&◌, leb, eqb}
 use Rattle.std.proofs.Common.{leb-true, eqb-true}
-use Rattle.refusals.specs.Refusals.{file_refusal, tables_refusal, block_refusal, ◌else◌}
-use Rattle.tables.specs.RefusalLaws.{else_left, else_right, else_test, passed, passed_test}
+use Rattle.refusals.specs.declared.Refusal.{Refusal}
+use Rattle.refusals.specs.Refusals.{number_of, file_refusal, tables_refusal, block_refusal, ◌else◌}
+use Rattle.tables.specs.RefusalLaws.{refusal_not_zero, else_left, else_right, else_test, passed, passed_test}
 use Rattle.unit.specs.Unit.{hand_over_refusal}
+
+-- what is answered to each number from 1 on is answered to a refusal's
+pub by_number : {X : Type 0} (F G : ℕ → X) → ((q : ℕ) → F (suc q) ≡ G (suc q)) → (k : Refusal) (q : ℕ) → number_of k ≡ q → F (number_of k) ≡ G q
+by_number F G h k zero e = absurd (refusal_not_zero k e)
+by_number F G h k (suc q) e = rw e (h q)
 
 -- a file past its refusal
 pub long_file : (n : ℕ) → file_refusal n ≡ 0 → 474 ≤ n
 unfolding file_refusal
 long_file n e = leb-true 474 n (passed (leb 474 n) 0 e)
+
+pub read_lengths : (f b : ℕ) → file_refusal f else block_refusal b ≡ 0 → (474 ≤ f) × (b ≡ 328)
+unfolding block_refusal
+read_lengths f b e =
+    (long_file f (else_left (file_refusal f) (block_refusal b) e), eqb-true b 328 (passed (eqb b 328) 5 (else_right (file_refusal f) (block_refusal b) e)))
 
 pub hand_over_lengths : (f t ct b : ℕ) → hand_over_refusal f t ct b ≡ 0 → (474 ≤ f) × (t ≡ 12288) × (ct ≡ 12288) × (b ≡ 328)
 unfolding file_refusal tables_refusal block_refusal

@@ -1,7 +1,7 @@
 -- Which cache lent words mean, and that a call on the words is the call on that cache. Statements only.
-use Rattle.std.specs.Prelude.{ℕ, ◌<◌, ◌≡◌, List, not, length, eqb, if◌then◌else◌}
+use Rattle.std.specs.Prelude.{ℕ, ◌<◌, ◌≡◌, List, length, eqb, Option, None, Some, if◌then◌else◌}
 use Rattle.lighting.specs.Lighting.{blank_lighting, on}
-use Rattle.lighting.specs.declared.OptionalLighting.{OptionalLighting}
+use Rattle.lighting.specs.declared.Lighting.{Lighting}
 use Rattle.block.specs.Block.{words, block_reading}
 use Rattle.unit.specs.declared.Cache.{Cache}
 use Rattle.unit.specs.Unit.{Cached, cached, cached_read, CachedBlock, cached_block, cached_read_packed, Handed, handed, hand_over}
@@ -9,12 +9,12 @@ use Rattle.unit.specs.CacheWords.{cache_count, cache_flag, cache_kept, cache_blo
 
 -- the lighting of a kept block: what it reads as. One that is neither off nor well formed means a lighting that `pack` refuses with 7, as here one
 -- with no light: its "count outside 1–8".
-unfoldable pub reading_of : List ℕ → OptionalLighting
+unfoldable pub reading_of : List ℕ → Option Lighting
 reading_of b = if formed b then block_reading (words b) else on blank_lighting
 
 -- the cache that words mean
 unfoldable pub cache_of : List ℕ → Cache
-cache_of c = record { filled = not (eqb (cache_flag c) 0); kept = cache_kept c; decoded = reading_of (cache_block c) }
+cache_of c = record { kept = if eqb (cache_flag c) 0 then None else Some (cache_kept c); decoded = reading_of (cache_block c) }
 
 -- what a call gives, with the cache that its words mean
 abbrev pub cached_as : {C D : Type 0} → (D → C) → Cached D → Cached C

@@ -1,15 +1,15 @@
 -- A unit's cache and the two calls that go through it: the cached read, which is the Rust's `LastLighting::read`, and the hand-over to a copy; and the reads as
 -- they cross the C boundary. Definitions only; the contracts of `fresh_cache`, `cached_read`, `hand_over` and `lent::read_packed` cite them, those of `lent`'s
 -- other calls by way of Meaning.
-use Rattle.std.specs.Prelude.{ℕ, zero, suc, List, Bool, true, false, not, ◌&&◌, ◌||◌, eqb, length, replicate, if◌then◌else◌}
-use Rattle.refusals.specs.Refusals.{outcome_number, file_refusal, tables_refusal, block_refusal, ◌else◌}
+use Rattle.std.specs.Prelude.{ℕ, zero, suc, List, Bool, true, false, eqb, length, Option, None, Some, Result, Ok, Err, if◌then◌else◌}
+use Rattle.refusals.specs.declared.Refusal.{Refusal}
+use Rattle.refusals.specs.Refusals.{number_of, file_refusal, tables_refusal, block_refusal, ◌else◌}
 use Rattle.sources.specs.Sources.{same_words}
 use Rattle.lighting.specs.Lighting.{off}
-use Rattle.lighting.specs.declared.OptionalLighting.{OptionalLighting}
-use Rattle.decoding.specs.Read.{read, registers_read, registers_read_count}
+use Rattle.lighting.specs.declared.Lighting.{Lighting}
+use Rattle.decoding.specs.Read.{read, registers_read}
 use Rattle.block.specs.Block.{accepted, packed_reading, Packing, packing}
 use Rattle.unit.specs.declared.Cache.{Cache}
-use Rattle.unit.specs.declared.CachedRead.{CachedRead}
 use Rattle.unit.specs.declared.HandedOver.{HandedOver}
 
 -- ---- The cache
@@ -18,20 +18,24 @@ use Rattle.unit.specs.declared.HandedOver.{HandedOver}
 unfoldable pub fresh_cache : Cache
 fresh_cache =
     record {
-      filled = false;
-      kept = replicate registers_read_count 0;
+      kept = None;
       decoded = off;
     }
 
 -- ---- The cached read
 
+-- the kept words are these
+unfoldable pub keeps : Option (List ℕ) → List ℕ → Bool
+keeps None ws = false
+keeps (Some kept) ws = same_words kept ws
+
 -- The cache is not empty, and its words are the file's: self.read == Some(read).
 unfoldable pub current : List ℕ → Cache → Bool
-current f c = c.filled && same_words c.kept (registers_read f)
+current f c = keeps c.kept (registers_read f)
 
 -- "The cached read keeps the 139 words of `registers_read` and their lighting"
 unfoldable pub read_anew : List ℕ → Cache
-read_anew f = record { filled = true; kept = registers_read f; decoded = read f }
+read_anew f = record { kept = Some (registers_read f); decoded = read f }
 
 -- "it decodes again exactly when those words differ or the cache is empty": the cache after a read that is not refused
 unfoldable pub refreshed : List ℕ → Cache → Cache
@@ -54,15 +58,17 @@ cached_read_if (suc k) f c = cached (suc k) c
 abbrev pub cached_read : List ℕ → Cache → Cached Cache
 cached_read f c = cached_read_if (file_refusal (length f)) f c
 
--- what the function's answer says in these terms
-abbrev pub cached_of : CachedRead → Cached Cache
-cached_of r = cached (outcome_number r.outcome) r.cache
+-- what the function's answer says in these terms, where the call found the cache c
+abbrev pub cached_of : Result Cache Refusal → Cache → Cached Cache
+cached_of (Ok n) c = cached 0 n
+cached_of (Err k) c = cached (number_of k) c
 
 -- ---- Both reads across the C boundary, where a lighting is its block: the reading, and then its pack
 
 -- 0 where it is lit, 100 where it is off
-unfoldable pub read_number : OptionalLighting → ℕ
-read_number d = if d.on then 0 else 100
+unfoldable pub read_number : Option Lighting → ℕ
+read_number None = 100
+read_number (Some l) = 0
 
 -- all zero where it is off; a file's reading is never refused with 7 (DecodedLaws: decoded_packable)
 unfoldable pub read_packed_if : ℕ → List ℕ → List ℕ → Packing
@@ -74,8 +80,9 @@ abbrev pub read_packed : List ℕ → List ℕ → Packing
 read_packed f b = read_packed_if (file_refusal (length f) else block_refusal (length b)) f b
 
 -- not "7 a lighting, made by the caller": it is off, or `pack` accepts it
-unfoldable pub packable : OptionalLighting → Bool
-packable d = not d.on || accepted d.lighting
+unfoldable pub packable : Option Lighting → Bool
+packable None = true
+packable (Some l) = accepted l
 
 -- What a cached read and its pack give: the number, the cache and the block afterwards.
 pub record CachedBlock (C : Type 0) : Type 0 where
@@ -140,6 +147,7 @@ abbrev pub hand_over : List ℕ → List ℕ → ℕ → Cache → List ℕ → 
 hand_over f t g c b ct cg =
     hand_over_if (hand_over_refusal (length f) (length t) (length ct) (length b)) f t g c b ct cg
 
--- what the function's answer says in these terms, where it left the block b and the copy's tables t
-abbrev pub handed_of : HandedOver → List ℕ → List ℕ → Handed Cache
-handed_of r b t = handed (outcome_number r.outcome) r.cache b t r.generation
+-- what the function's answer says in these terms, where the call found the cache c and the copy's generation g, and left the block b and the copy's tables t
+abbrev pub handed_of : Result HandedOver Refusal → Cache → List ℕ → List ℕ → ℕ → Handed Cache
+handed_of (Ok h) c b t g = handed 0 h.cache b t h.generation
+handed_of (Err k) c b t g = handed (number_of k) c b t g

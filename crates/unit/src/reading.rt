@@ -2,28 +2,19 @@
 ghost use Rattle.std.specs.Prelude.{◌≡◌};
 ghost use Rattle.unit.specs.Unit.{cached_read, cached_of};
 
-use crate::{Cache, CachedRead, read_anew};
-use decoding::registers_read::current;
-use refusals::{Outcome, Refusal};
+use crate::{Cache, is_current, read_anew};
+use refusals::Refusal;
 
-// The lighting set up in the registers, decoded again only where the words that it comes from are others than the kept ones.
-pub fn cached_read(file: &[u32], cache: Cache) -> CachedRead
-    ensures { cached_of result ≡ cached_read file.now cache }
+// The cache that the read leaves, whose lighting is the one set up in the registers: it is decoded again only where the words that it comes from are others than the
+// kept ones. Refused, the cache stays as the caller has it.
+pub fn cached_read(file: &[u32], cache: Cache) -> Result<Cache, Refusal>
+    ensures { cached_of result cache ≡ cached_read file.now cache }
 {
     if file.len() < 474 {
-        return CachedRead {
-            outcome: Outcome::Refused(Refusal::ShortFile),
-            cache,
-        };
+        return Err(Refusal::ShortFile);
     }
-    if current(file, cache.filled, &cache.kept) {
-        return CachedRead {
-            outcome: Outcome::Done,
-            cache,
-        };
+    if is_current(file, &cache) {
+        return Ok(cache);
     }
-    CachedRead {
-        outcome: Outcome::Done,
-        cache: read_anew(file),
-    }
+    Ok(read_anew(file))
 }

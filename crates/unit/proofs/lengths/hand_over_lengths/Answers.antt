@@ -1,7 +1,7 @@
--- `handing_over::length_refusal` meets its contract: each return is the first refusal that is met.
+-- `lengths::hand_over_lengths` meets its contract: each return is the first refusal that is met.
 use borrow.Author.Tests.{lt-leb, le-leb, eq-eqb, ne_eqb}
 use Rattle.refusals.specs.Refusals.{file_refusal, tables_refusal, block_refusal}
-use Rattle.unit.proofs.handing_over.length_refusal.Goals as goal
+use Rattle.unit.proofs.lengths.hand_over_lengths.Goals as goal
 
 pub returns-then-file-lt474 : goal.returns-then-file-lt474
 unfolding file_refusal
