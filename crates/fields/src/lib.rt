@@ -19,20 +19,20 @@ fn colour_channel(field: u32) -> f32
     f32::from_bits(colour_word(field))
 }
 
-// A light colour: red, green and blue. The table is read in this one place, so that the compiler puts it here.
+// A light colour: red, green and blue. The table is read in this one place, so that the compiler puts it here;
+// `map` over the three fields would move each through memory.
 pub fn color(value: u32) -> [f32; 3]
     ensures { result ≡ colour_of value }
 {
     let mut channels = [0.0; 3];
-    let mut i = 0;
-    while i < 3 {
+    for i in 0..3 {
         channels[i] = colour_channel((value >> (20 - 10 * i as u32)) % 0x400);
-        i += 1;
     }
     channels
 }
 
 // 13 bits as a signed number.
+#[tactic(auto, unfolding(crate::specs::Fields::signed13), using(binary32::specs::CastLaws::exact, binary32::specs::CastLaws::below_zero))]
 fn signed(n: u32) -> f32
     requires { n < 8192 }
     ensures { result ≡ of_int binary32 (signed13 n) }

@@ -13,6 +13,7 @@ pub fn power(k: u32) -> u32
 }
 
 // The binary32 exponent of a short float's exponent field. A zero field is not denormal but just the smallest one.
+#[tactic(auto, unfolding(crate::specs::Fields::short_exponent), using(crate::specs::ShortFloatLaws::half_power, crate::specs::ShortFloatLaws::half_power_le, crate::specs::ShortFloatLaws::exponent_lt))]
 fn pica_exponent(field: u32, exponent: u32) -> u32
     requires { (2 ≤ exponent) × (exponent ≤ 7) × (field < 2 ^ exponent) }
     ensures { (result ≡ short_exponent exponent field) × (result < 256) }
@@ -25,6 +26,7 @@ fn pica_exponent(field: u32, exponent: u32) -> u32
 }
 
 // The binary32 word of a short float.
+#[tactic(auto, unfolding(crate::specs::Fields::short_word, crate::specs::Fields::short_sign), using(crate::specs::ShortFloatLaws::mantissa_lt))]
 fn pica_word(bits: u32, mantissa: u32, exponent: u32) -> u32
     requires { ShortWidths mantissa exponent }
     ensures { result ≡ short_word mantissa exponent bits }
@@ -41,6 +43,7 @@ fn pica_word(bits: u32, mantissa: u32, exponent: u32) -> u32
 
 // A short float with the given mantissa and exponent widths.
 // Asks: a mantissa of 1 to 12 bits and an exponent of 2 to 7, which no bit pattern decides: the census tests them, all else has constants.
+#[tactic(auto, unfolding(crate::specs::Fields::short_float))]
 pub fn pica_float(bits: u32, mantissa: u32, exponent: u32) -> f32
     requires { ShortWidths mantissa exponent }
     ensures { result ≡ short_float mantissa exponent bits }

@@ -21,12 +21,14 @@ fn upload_step(word: u32) -> f32
     }
 }
 
+#[tactic(auto, unfolding(crate::specs::Fields::upload_value_bits), using(crate::specs::UploadLaws::value_number))]
 pub fn upload_value_bits(word: u32) -> u32
     ensures { result ≡ upload_value_bits word }
 {
     f32::to_bits(upload_value(word))
 }
 
+#[tactic(auto, unfolding(crate::specs::Fields::upload_step_bits), using(crate::specs::UploadLaws::step_number))]
 pub fn upload_step_bits(word: u32) -> u32
     ensures { result ≡ upload_step_bits word }
 {

@@ -13,39 +13,14 @@ one_more w i = let next : suc i ≡ i + 1 = omega arith in ap (channels_to w) ne
 
 pub loop-i-init : goal.loop-i-init
 unfolding channels_to
-loop-i-init c = (omega arith, refl)
-
-pub overflow_cast-i : goal.overflow_cast-i
-overflow_cast-i c = omega arith
-
-pub overflow_mul-i : goal.overflow_mul-i
-overflow_mul-i c = omega arith
-
-pub overflow_sub-i : goal.overflow_sub-i
-overflow_sub-i c = omega arith
-
-pub overflow_shr-value : goal.overflow_shr-value
-overflow_shr-value c = omega arith
-
-pub offset_bounds-channels-i : goal.offset_bounds-channels-i
-offset_bounds-channels-i c = omega arith
-
-pub bounds-channels-i : goal.bounds-channels-i
-bounds-channels-i c = omega arith
-
-pub overflow_add-i : goal.overflow_add-i
-overflow_add-i c = omega arith
-
-pub loop-i-smaller : goal.loop-i-smaller
-loop-i-smaller c = omega arith
+loop-i-init c = refl
 
 pub loop-i-preserved : goal.loop-i-preserved
 unfolding colour_field
-loop-i-preserved c =
-    (omega arith, rw (c.loop-i.invariant.1, c.colour_channel.ensures) (one_more c.args.value c.loop-i.i))
+loop-i-preserved c = rw (c.loop-i.invariant, c.colour_channel.ensures) (one_more c.args.value c.loop-i.i)
 
 pub returns : goal.returns
 unfolding channels_to colour_of
 returns c =
     let all : c.loop-i.i ≡ 3 = omega arith in
-    rw all at c.loop-i.invariant.1
+    rw all at c.loop-i.invariant

@@ -1,10 +1,6 @@
-use Prim.Native.Nat.{◌-◌, ◌≤◌}
 use mathlib.Core.Path.{◌≡◌}
 use Rattle.fields.specs.Steps.{channels_to}
 use Rattle.fields.proofs.color.Given as goal
 
 abbrev pub invariant-loop-i : goal.invariant-loop-i
-invariant-loop-i l = (l.i ≤ 3) × (l.channels ≡ channels_to l.value l.i)
-
-abbrev pub decreases-loop-i : goal.decreases-loop-i
-decreases-loop-i l = 3 - l.i
+invariant-loop-i l = l.channels ≡ channels_to l.value l.i
