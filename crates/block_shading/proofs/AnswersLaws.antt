@@ -2,7 +2,7 @@
 -- refusal, one fragment is a list of one, and of a list each gets what block shading gives it alone. Assumes nothing.
 use Prim.Native.Nat.{ℕ, zero, suc, ◌*◌, ◌/◌, ◌%◌, ◌<◌}
 use Rattle.std.proofs.Common.{arith, sym, ◌∙◌, length-drop, length-take-le}
-use Rattle.std.specs.Prelude.{◌≡◌, Bool, ◌&&◌, List, eqb, length, take, drop}
+use Rattle.std.specs.Prelude.{◌≡◌, Bool, ◌&&◌, List, eqb, length, take, drop, Option, None, Some}
 use Rattle.std.proofs.Math.Path.{refl, ap}
 use Rattle.std.proofs.Math.Bool.{true, false, cond}
 use borrow.Author.Tests.{eq-eqb, ne_eqb, eqb-true}
@@ -11,10 +11,9 @@ use Rattle.block.specs.declared.BlockForm.TheVariants.{Off as OffForm, NotWellFo
 use Rattle.block.specs.Block.{words, all_zero, well_formed, block_lighting, block_reading, words_refusal}
 use Rattle.block.specs.Steps.{nan_free, form_of, block_form}
 use Rattle.lighting.specs.declared.Lighting.{Lighting}
-use Rattle.lighting.specs.declared.OptionalLighting.{OptionalLighting}
 use Rattle.lighting.specs.Lighting.{off, on}
 use Rattle.shading.specs.Shade.{shaded}
-use Rattle.block_shading.specs.BlockShading.{eight_of, eight_of_each, block_shading_refusal, shaded_by, block_shading_if, block_shading, fragments_refusal, shade_fragments_refusal, shaded_each_by, shade_fragments_if, shade_fragments}
+use Rattle.block_shading.specs.BlockShading.{block_shading_refusal, shaded_by, block_shading_if, block_shading, fragments_refusal, shade_fragments_refusal, shaded_each_by, shade_fragments_if, shade_fragments}
 use Rattle.block_shading.specs.Steps.{is_off, shaded_by_form}
 use Rattle.block_shading.specs.FragmentsLaws.{each_of_one, each_at}
 use Rattle.block_reading.specs.Steps.{is_lit}
@@ -93,9 +92,9 @@ module _ (block tables fragments answers : List ℕ) where
     unfolding shade_fragments
     numbered k e = ap (λ (n : ℕ). shade_fragments_if n block tables fragments answers) (passes ∙ e)
 
-    read_as : (r : OptionalLighting) → block_reading (words block) ≡ r → shade_fragments_if 0 block tables fragments answers ≡ shaded_each_by r tables fragments answers
+    read_as : (r : Option Lighting) → block_reading (words block) ≡ r → shade_fragments_if 0 block tables fragments answers ≡ shaded_each_by r tables fragments answers
     unfolding shade_fragments_if
-    read_as r e = ap (λ (x : OptionalLighting). shaded_each_by x tables fragments answers) e
+    read_as r e = ap (λ (x : Option Lighting). shaded_each_by x tables fragments answers) e
 
     -- with the right lengths, by the form of the block's words
     pub by_form : shaded_by_form block tables fragments answers ≡ shade_fragments block tables fragments answers
@@ -117,7 +116,11 @@ module _ (block tables fragment answer : List ℕ) (f : length fragment ≡ 23) 
 
   same_if : (k : ℕ) → block_shading_if k block tables fragment answer ≡ shade_fragments_if k block tables fragment answer
   unfolding block_shading_if shade_fragments_if shaded_by shaded_each_by
-  same_if zero = rw (each_of_one (block_reading (words block)).lighting tables fragment f) refl
+  same_if zero = go (block_reading (words block))
+    where
+      go : (r : Option Lighting) → shaded_by r tables fragment answer ≡ shaded_each_by r tables fragment answer
+      go None = refl
+      go (Some l) = rw (each_of_one l tables fragment f) refl
   same_if (suc k) = refl
 
   pub one_fragment : block_shading block tables fragment answer ≡ shade_fragments block tables fragment answer
@@ -160,19 +163,13 @@ module _ (block tables fragments answers : List ℕ) (f : fragments_refusal (len
 
   answered_alike : (n : ℕ) → block_shading_if n block tables (fragment_at fragments k) (answer_at answers k) ≡ shaded (shade_fragments_if n block tables fragments answers).number (answer_at (shade_fragments_if n block tables fragments answers).answer k)
   unfolding block_shading_if shade_fragments_if shaded_by shaded_each_by
-  answered_alike zero = go (block_reading (words block)).on
+  answered_alike zero = go (block_reading (words block))
     where
-      l : Lighting
-      l = (block_reading (words block)).lighting
-
-      n : ℕ
-      n = length fragments / 23
-
-      go : (lit : Bool)
-          → cond lit (shaded 0 (eight_of l tables (fragment_at fragments k))) (shaded 100 (answer_at answers k))
-          ≡ shaded (cond lit (shaded 0 (eight_of_each l tables n fragments)) (shaded 100 answers)).number (answer_at (cond lit (shaded 0 (eight_of_each l tables n fragments)) (shaded 100 answers)).answer k)
-      go true = ap (shaded 0) (sym (each_at l tables k n fragments h))
-      go false = refl
+      go : (r : Option Lighting)
+          → shaded_by r tables (fragment_at fragments k) (answer_at answers k)
+          ≡ shaded (shaded_each_by r tables fragments answers).number (answer_at (shaded_each_by r tables fragments answers).answer k)
+      go None = refl
+      go (Some l) = ap (shaded 0) (sym (each_at l tables k (length fragments / 23) fragments h))
   answered_alike (suc n) = refl
 
   -- of whole fragments, each gets the number and the answer that block shading gives it alone

@@ -1,17 +1,14 @@
--- Block shading: a fragment shaded from a block and the tables alone. A fragment's 23 words, what block shading answers with its refusals, the same of many
--- fragments, and the numbers of the answer's cases. Definitions only. The contracts of `block_shading::shade_block` and `shade_fragments` are `block_shading`
--- and `shade_fragments`; the eight k are `shade`'s (Shade of shading).
-use Rattle.std.specs.Prelude.{ℕ, zero, suc, ◌+◌, ◌*◌, ◌/◌, ◌%◌, List, [], ◌∷◌, ◌++◌, cond, ◌&&◌, eqb, get_or, length, take, drop, Float}
-use Rattle.refusals.specs.Refusals.{block_refusal, tables_refusal, fragment_refusal, answer_refusal, ◌else◌, number_of}
+-- Block shading: a fragment shaded from a block and the tables alone. A fragment's 23 words, what block shading answers with its refusals, and the same of many
+-- fragments. Definitions only. The contracts of `block_shading::shade_block` and `shade_fragments` are `block_shading` and `shade_fragments`; the eight k are
+-- `shade`'s (Shade of shading).
+use Rattle.std.specs.Prelude.{ℕ, zero, suc, ◌+◌, ◌*◌, ◌/◌, ◌%◌, List, [], ◌∷◌, ◌++◌, cond, ◌&&◌, eqb, get_or, length, take, drop, Float, Option, None, Some}
+use Rattle.refusals.specs.Refusals.{block_refusal, tables_refusal, fragment_refusal, answer_refusal, ◌else◌}
 use Rattle.binary32.specs.Binary32.{float_of}
 use Rattle.lighting.specs.declared.Lighting.{Lighting}
-use Rattle.lighting.specs.declared.OptionalLighting.{OptionalLighting}
 use Rattle.block.specs.Block.{words, block_reading, words_refusal}
 use Rattle.shading.specs.Shade.{shade}
 -- a number, and the answer slice afterwards
 pub use Rattle.shading.specs.Shade.{Shaded, shaded}
-use Rattle.block_shading.specs.declared.BlockShading.{BlockShading}
-use Rattle.block_shading.specs.declared.BlockShading.TheVariants.{Refused, Off, Done}
 
 -- ---- A fragment: "23 words (quaternion, view, texels)"
 
@@ -49,9 +46,9 @@ block_shading_refusal block tables fragment answer =
     else words_refusal (words block)
 
 -- "past all refusals, 100 for an off block, whose answer slice is left untouched"
-unfoldable pub shaded_by : OptionalLighting → List ℕ → List ℕ → List ℕ → Shaded
-shaded_by r tables fragment answer =
-    cond r.on (shaded 0 (eight_of r.lighting tables fragment)) (shaded 100 answer)
+unfoldable pub shaded_by : Option Lighting → List ℕ → List ℕ → List ℕ → Shaded
+shaded_by None tables fragment answer = shaded 100 answer
+shaded_by (Some l) tables fragment answer = shaded 0 (eight_of l tables fragment)
 
 -- a refusal leaves the answer untouched
 unfoldable pub block_shading_if : ℕ → List ℕ → List ℕ → List ℕ → List ℕ → Shaded
@@ -83,9 +80,9 @@ shade_fragments_refusal block tables fragments answers =
     else words_refusal (words block)
 
 -- 100 for an off block, whose answers are left untouched
-unfoldable pub shaded_each_by : OptionalLighting → List ℕ → List ℕ → List ℕ → Shaded
-shaded_each_by r tables fragments answers =
-    cond r.on (shaded 0 (eight_of_each r.lighting tables (length fragments / 23) fragments)) (shaded 100 answers)
+unfoldable pub shaded_each_by : Option Lighting → List ℕ → List ℕ → List ℕ → Shaded
+shaded_each_by None tables fragments answers = shaded 100 answers
+shaded_each_by (Some l) tables fragments answers = shaded 0 (eight_of_each l tables (length fragments / 23) fragments)
 
 unfoldable pub shade_fragments_if : ℕ → List ℕ → List ℕ → List ℕ → List ℕ → Shaded
 shade_fragments_if zero block tables fragments answers = shaded_each_by (block_reading (words block)) tables fragments answers
@@ -95,10 +92,3 @@ shade_fragments_if (suc k) block tables fragments answers = shaded (suc k) answe
 unfoldable pub shade_fragments : List ℕ → List ℕ → List ℕ → List ℕ → Shaded
 shade_fragments block tables fragments answers =
     shade_fragments_if (shade_fragments_refusal block tables fragments answers) block tables fragments answers
-
--- ---- The numbers of the answer's cases
-
-abbrev pub shaded_number : BlockShading → ℕ
-shaded_number (Refused r) = number_of r
-shaded_number Off = 100
-shaded_number Done = 0

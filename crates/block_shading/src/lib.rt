@@ -6,47 +6,26 @@ mod fragments;
 pub mod slots;
 
 ghost use Rattle.std.specs.Prelude.{◌≡◌, ◌*◌, ◌/◌, ◌<◌, length};
+ghost use Rattle.refusals.specs.Refusals.{switch_number};
 ghost use Rattle.shading.specs.Shade.{shaded};
 ghost use Rattle.surface.specs.Steps.{unit_quaternion};
-ghost use Rattle.block_shading.specs.BlockShading.{quaternion_of, block_shading, shade_fragments, shaded_number};
+ghost use Rattle.block_shading.specs.BlockShading.{quaternion_of, block_shading, shade_fragments};
 ghost use Rattle.block_shading.specs.Steps.{is_off, shaded_by_form};
 
 use block::BlockForm;
 use block_reading::{is_lit, is_plain};
-use refusals::Refusal;
-
-// What block shading answers: a refusal or off, with the answer slice as it was, or Done.
-#[derive(Clone, Copy)]
-pub enum BlockShading {
-    Refused(Refusal),
-    Off,
-    Done,
-}
-
-// The number of an answer, as a call across the C boundary has it: 0, a refusal's, or 100 for off.
-pub fn shaded_number(answer: BlockShading) -> u32
-    ensures { result ≡ shaded_number answer }
-{
-    match answer {
-        BlockShading::Refused(refusal) => refusals::number(refusal),
-        BlockShading::Off => 100,
-        BlockShading::Done => 0,
-    }
-}
+use refusals::{Refusal, Switch};
 
 // Whether a block of this form is all zero.
+#[tactic(auto, unfolding(crate::specs::Steps::is_off))]
 pub fn is_off(form: BlockForm) -> bool
     ensures { result ≡ is_off form }
 {
-    match form {
-        BlockForm::Off => true,
-        BlockForm::NotWellFormed => false,
-        BlockForm::NanFree => false,
-        BlockForm::WithNan => false,
-    }
+    matches!(form, BlockForm::Off)
 }
 
 // The first fragment's unit quaternion, where there is a fragment.
+#[tactic(auto, unfolding(sources::specs::Steps::given))]
 fn first_unit_quaternion(fragments: &[u32]) -> [f32; 4]
     ensures { 0 < length fragments.now / 23 → result ≡ unit_quaternion (quaternion_of fragments.now) }
 {
@@ -58,15 +37,16 @@ fn first_unit_quaternion(fragments: &[u32]) -> [f32; 4]
     }
 }
 
-// What the form of the block leaves: the channels of each fragment, or off, or a refusal.
+// What the form of the block leaves: the channels of each fragment, or off or a refusal and the answers as they were.
+#[tactic(auto, unfolding(sources::specs::Steps::given, crate::specs::Steps::shaded_by_form))]
 fn shade_by_form(
     block: &[u32],
     tables: &[u32],
     fragments: &[u32],
     answers: &mut [u32],
-) -> BlockShading
+) -> Result<Switch, Refusal>
     requires { (length block.now ≡ 328) × (length tables.now ≡ 12288) × (length answers.old ≡ 8 * (length fragments.now / 23)) }
-    ensures { shaded (shaded_number result) answers.new ≡ shaded_by_form block.now tables.now fragments.now answers.old }
+    ensures { shaded (switch_number result) answers.new ≡ shaded_by_form block.now tables.now fragments.now answers.old }
 {
     let none = [0u8; 0];
     let first = first_unit_quaternion(fragments);
@@ -84,58 +64,60 @@ fn shade_by_form(
             is_plain(form),
             answers,
         );
-        return BlockShading::Done;
+        return Ok(Switch::On);
     }
     if is_off(form) {
-        return BlockShading::Off;
+        return Ok(Switch::Off);
     }
-    BlockShading::Refused(Refusal::NotWellFormed)
+    Err(Refusal::NotWellFormed)
 }
 
 // The eight channels of a fragment, 0 to 255, in the printed order.
+#[tactic(auto, using(crate::proofs::AnswersLaws::wrong_block, crate::proofs::AnswersLaws::wrong_tables, crate::proofs::AnswersLaws::wrong_fragment, crate::proofs::AnswersLaws::wrong_answer, crate::proofs::AnswersLaws::by_form_of_one))]
 pub fn shade_block(
     block: &[u32],
     tables: &[u32],
     fragment: &[u32],
     answer: &mut [u32],
-) -> BlockShading
-    ensures { shaded (shaded_number result) answer.new ≡ block_shading block.now tables.now fragment.now answer.old }
+) -> Result<Switch, Refusal>
+    ensures { shaded (switch_number result) answer.new ≡ block_shading block.now tables.now fragment.now answer.old }
 {
     if block.len() != 328 {
-        return BlockShading::Refused(Refusal::WrongBlock);
+        return Err(Refusal::WrongBlock);
     }
     if tables.len() != 12288 {
-        return BlockShading::Refused(Refusal::WrongTables);
+        return Err(Refusal::WrongTables);
     }
     if fragment.len() != 23 {
-        return BlockShading::Refused(Refusal::WrongFragment);
+        return Err(Refusal::WrongFragment);
     }
     if answer.len() != 8 {
-        return BlockShading::Refused(Refusal::WrongFragment);
+        return Err(Refusal::WrongFragment);
     }
     shade_by_form(block, tables, fragment, answer)
 }
 
 // The same of many fragments, 23 words each, with 8 words of the answers for each: the block is checked and its head is read once.
+#[tactic(auto, using(crate::proofs::AnswersLaws::wrong_block_of_many, crate::proofs::AnswersLaws::wrong_tables_of_many, crate::proofs::AnswersLaws::not_whole, crate::proofs::AnswersLaws::not_8_for_each, crate::proofs::AnswersLaws::whole_fragments, crate::proofs::AnswersLaws::by_form))]
 pub fn shade_fragments(
     block: &[u32],
     tables: &[u32],
     fragments: &[u32],
     answers: &mut [u32],
-) -> BlockShading
-    ensures { shaded (shaded_number result) answers.new ≡ shade_fragments block.now tables.now fragments.now answers.old }
+) -> Result<Switch, Refusal>
+    ensures { shaded (switch_number result) answers.new ≡ shade_fragments block.now tables.now fragments.now answers.old }
 {
     if block.len() != 328 {
-        return BlockShading::Refused(Refusal::WrongBlock);
+        return Err(Refusal::WrongBlock);
     }
     if tables.len() != 12288 {
-        return BlockShading::Refused(Refusal::WrongTables);
+        return Err(Refusal::WrongTables);
     }
     if fragments.len() % 23 != 0 {
-        return BlockShading::Refused(Refusal::WrongFragment);
+        return Err(Refusal::WrongFragment);
     }
     if answers.len() != 8 * (fragments.len() / 23) {
-        return BlockShading::Refused(Refusal::WrongFragment);
+        return Err(Refusal::WrongFragment);
     }
     shade_by_form(block, tables, fragments, answers)
 }

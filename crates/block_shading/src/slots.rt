@@ -17,6 +17,7 @@ use lighting::{Lighting, Slot, blank_light};
 use surface::Frame;
 
 // The lighting but its lights, which stay blank.
+#[tactic(auto, unfolding(crate::specs::Steps::head_of))]
 fn head_of(block: &[u32], bytes: &[u8], plain: bool) -> Lighting
     requires { (length (given block.now bytes.now) ≡ 328) × (plain ≡ true → nan_free (words (given block.now bytes.now)) ≡ true) }
     ensures { result ≡ head_of (words (given block.now bytes.now)) }
@@ -35,23 +36,23 @@ pub fn unit_quaternion_of(words: &[u32], bytes: &[u8], at: usize) -> [f32; 4]
 }
 
 // Of the fragment whose words start at `at`, with its unit quaternion.
+#[tactic(auto, using(crate::proofs::slots::Texels::texel), unfolding(surface::specs::Steps::frame_of, shading::specs::Steps::lighting_frame))]
 fn frame_of(l: Lighting, words: &[u32], bytes: &[u8], at: usize, unit: [f32; 4]) -> Frame
     requires { (bump_unit l.bump ≤ 3) × (at + 23 ≤ length (given words.now bytes.now)) × (at + 23 < 0x10000000000000000) × (unit ≡ unit_quaternion (quaternion_of (drop at (given words.now bytes.now)))) }
     ensures { result ≡ lighting_frame l (quaternion_of (drop at (given words.now bytes.now))) (view_of (drop at (given words.now bytes.now))) (texels_of (drop at (given words.now bytes.now))) }
 {
-    let bump = l.bump;
     let view = fragments::view_of(words, bytes, at);
-    let texel = fragments::texel_at(words, bytes, at, lighting::bump_unit(bump));
-    surface::frame_of(bump, texel, l.config, l.needs_view, unit, view)
+    let texel = fragments::texel_at(words, bytes, at, lighting::bump_unit(l.bump));
+    surface::frame_of(l.bump, texel, l.config, l.needs_view, unit, view)
 }
 
+#[tactic(auto, using(crate::proofs::slots::Texels::texel), unfolding(shading::specs::Steps::lighting_shadow))]
 fn shadow_of(l: Lighting, words: &[u32], bytes: &[u8], at: usize) -> [f32; 4]
     requires { (shadow_unit l.shadow ≤ 3) × (at + 23 ≤ length (given words.now bytes.now)) × (at + 23 < 0x10000000000000000) }
     ensures { result ≡ lighting_shadow l (texels_of (drop at (given words.now bytes.now))) }
 {
-    let shadow = l.shadow;
-    let texel = fragments::texel_at(words, bytes, at, lighting::shadow_unit(shadow));
-    surface::shadow::shadow_texel(shadow, texel)
+    let texel = fragments::texel_at(words, bytes, at, lighting::shadow_unit(l.shadow));
+    surface::shadow::shadow_texel(l.shadow, texel)
 }
 
 // The sums of the lit slots. `plain` says that no word of the block is a NaN's pattern.
@@ -75,10 +76,9 @@ fn sum_slots(
         diffuse: [0.0, 0.0, 0.0, 1.0],
         specular: [0.0, 0.0, 0.0, 1.0],
     };
-    let mut slot = Slot(0);
-    while slot.0 < count {
-        let light = light_of(block, block_bytes, slot, plain);
-        let last = shading::sums::is_last(slot, count);
+    for slot in 0..count {
+        let light = light_of(block, block_bytes, Slot(slot), plain);
+        let last = shading::sums::is_last(Slot(slot), count);
         sums = light_steps::step(
             tables,
             table_bytes,
@@ -89,12 +89,12 @@ fn sum_slots(
             light,
             sums,
         );
-        slot.0 += 1;
     }
     sums
 }
 
 // The eight channels of the fragment whose words start at `at`, by the block and its head, and the fragment's unit quaternion.
+#[tactic(auto, using(crate::specs::HeadLaws::head_bump, crate::specs::HeadLaws::head_shadow, crate::specs::HeadLaws::head_count, crate::specs::HeadLaws::head_shades), unfolding(crate::specs::BlockShading::eight_of))]
 fn shade_one(
     block: &[u32],
     block_bytes: &[u8],
@@ -164,8 +164,7 @@ pub fn shade_each(
     ensures { answers.new ≡ eight_of_each (block_lighting (words (given block.now block_bytes.now))) (given tables.now table_bytes.now) (length (given fragments.now fragment_bytes.now) / 23) (given fragments.now fragment_bytes.now) }
 {
     let head = head_of(block, block_bytes, plain);
-    let mut i = 0;
-    while i < count {
+    for i in 0..count {
         let unit = unit_quaternion_at(fragments, fragment_bytes, i, first);
         let channels = shade_one(
             block,
@@ -180,6 +179,5 @@ pub fn shade_each(
             unit,
         );
         shading::answer_words::put(answers, 8 * i, channels);
-        i += 1;
     }
 }
