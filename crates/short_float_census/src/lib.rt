@@ -5,7 +5,7 @@
 pub mod counting;
 
 ghost use Rattle.std.specs.Prelude.{◌≡◌};
-ghost use Rattle.short_float_census.specs.Census.{totals, counted as counted_of, census_of};
+ghost use Rattle.short_float_census.specs.Census.{counted as counted_of, census_of, four_of};
 
 use fields::short_floats::power;
 
@@ -20,7 +20,7 @@ pub(crate) enum Class {
 }
 
 // How many patterns there are of each class.
-#[derive(Clone, Copy)]
+#[derive(Clone, Copy, Default)]
 pub struct Totals {
     pub zeros: u32,
     pub infinities: u32,
@@ -28,40 +28,30 @@ pub struct Totals {
     pub numbers: u32,
 }
 
-// Four zeros.
-pub(crate) fn none() -> Totals
-    ensures { result ≡ totals 0 0 0 0 }
-{
-    Totals {
-        zeros: 0,
-        infinities: 0,
-        nans: 0,
-        numbers: 0,
+// The four in this order.
+impl From<Totals> for [u32; 4] {
+    fn from(totals: Totals) -> [u32; 4]
+        ensures { result ≡ four_of totals }
+    {
+        [totals.zeros, totals.infinities, totals.nans, totals.numbers]
     }
 }
 
 // Whether there is a census for these widths: mantissas of 1 to 12 bits, exponents of 2 to 7.
+#[tactic(auto, unfolding(crate::specs::Census::counted))]
 pub(crate) fn counted(mantissa: u32, exponent: u32) -> bool
     ensures { result ≡ counted_of mantissa exponent }
 {
-    if mantissa < 1 {
-        return false;
-    }
-    if 12 < mantissa {
-        return false;
-    }
-    if exponent < 2 {
-        return false;
-    }
-    exponent <= 7
+    (1..=12).contains(&mantissa) && (2..=7).contains(&exponent)
 }
 
 // The four totals over all patterns with these widths and a sign; four zeros where there is no census.
+#[tactic(auto, unfolding(crate::specs::Census::census_of), using(crate::specs::CensusLaws::counted_widths, crate::specs::CensusLaws::every_width))]
 pub fn census(mantissa: u32, exponent: u32) -> Totals
     ensures { result ≡ census_of mantissa exponent }
 {
     if !counted(mantissa, exponent) {
-        return none();
+        return Totals::default();
     }
     let unit = power(mantissa);
     let nans = 2 * (unit - 1);
@@ -69,7 +59,7 @@ pub fn census(mantissa: u32, exponent: u32) -> Totals
     Totals {
         zeros: 2,
         infinities: 2,
-        nans: nans,
-        numbers: numbers,
+        nans,
+        numbers,
     }
 }
