@@ -7,12 +7,17 @@ use Rattle.std.specs.Prelude.{◌≡◌, List, [], ◌++◌, Bool, cond, take, d
 use Rattle.std.proofs.Math.Path.{refl}
 use Rattle.std.proofs.Math.Bool.{true, false}
 use Rattle.std.proofs.Math.ListN.{length, length-append, length-drop}
-use Rattle.std.proofs.Common.{drop-drop, length-take-le}
+use Rattle.std.proofs.Common.{drop-drop, length-take-le, get_or, ap, ◌∙◌}
 use Rattle.printing.specs.Steps.{Out, out, puts}
 use Rattle.printing.specs.WritingLaws.{puts_more}
 use Rattle.printing.specs.TextLaws.{line_most, refused_most}
-use Rattle.shading.specs.Shade.{Shaded}
-use Rattle.capture_lines.specs.Lines.{shown_line, fragment_lines, body_lines}
+use Rattle.printing.specs.Printing.{refused_line}
+use Rattle.refusals.specs.Refusals.{number_of}
+use Rattle.refusals.specs.declared.Refusal.{Refusal}
+use Rattle.refusals.specs.declared.Refusal.TheVariants.{ShortFile, WrongTables, HighRegister, LastGeneration, WrongSaved, WrongBlock, NotWellFormed, BadCapture, WrongFragment}
+use Rattle.shading.specs.Shade.{Shaded, shaded}
+use Rattle.std.specs.Simd.{first_chunks}
+use Rattle.capture_lines.specs.Lines.{no_answer, shown_line, fragment_lines, body_lines}
 
 module _ (f g : List ℕ → Shaded) (alike : (q : List ℕ) → length q ≡ 23 → f q ≡ g q) where
   pub lines_alike : (n : ℕ) (ws : List ℕ) → 23 * n ≤ length ws → fragment_lines f n ws ≡ fragment_lines g n ws
@@ -69,3 +74,37 @@ module _ (f : List ℕ → Shaded) (eight : (q : List ℕ) → length (f q).answ
       go : (b : Bool) → length (cond b (fragment_lines f (length ws / 23) ws) []) ≤ 32 * (length ws / 23)
       go true = lines_fit (length ws / 23) ws
       go false = omega arith
+
+-- ---- the fragments as the code has them, and the lines of what is not lit
+
+-- fragment i is the i-th chunk of 23 words
+pub fragment_at : (n : ℕ) (ws : List ℕ) (i : ℕ) (d : List ℕ) → i < n → get_or (first_chunks 23 n ws) i d ≡ take 23 (drop (23 * i) ws)
+fragment_at zero ws i d h = absurd (omega arith)
+fragment_at (suc n) ws zero d h = refl
+fragment_at (suc n) ws (suc i) d h =
+    let e : 23 + 23 * i ≡ 23 * suc i = omega arith in
+    fragment_at n (drop 23 ws) i d (omega arith) ∙ ap (λ (r : List ℕ). take 23 r) (drop-drop (23 * i) 23 ws ∙ ap (λ (m : ℕ). drop m ws) e)
+
+-- every refusal is shown by its number, which has no more than three digits
+pub refused_shown : (k : Refusal) → shown_line (shaded (number_of k) no_answer) ≡ refused_line (number_of k)
+unfolding shown_line
+refused_shown ShortFile = refl
+refused_shown WrongTables = refl
+refused_shown HighRegister = refl
+refused_shown LastGeneration = refl
+refused_shown WrongSaved = refl
+refused_shown WrongBlock = refl
+refused_shown NotWellFormed = refl
+refused_shown BadCapture = refl
+refused_shown WrongFragment = refl
+
+pub refusal_small : (k : Refusal) → number_of k < 1000
+refusal_small ShortFile = omega arith
+refusal_small WrongTables = omega arith
+refusal_small HighRegister = omega arith
+refusal_small LastGeneration = omega arith
+refusal_small WrongSaved = omega arith
+refusal_small WrongBlock = omega arith
+refusal_small NotWellFormed = omega arith
+refusal_small BadCapture = omega arith
+refusal_small WrongFragment = omega arith

@@ -1,6 +1,8 @@
 -- What the code computes step by step; nobody has to trust it: `print_fragments`' contract ties it to the law, `Lines`. A block that is checked once answers every fragment
 -- as a lighting, or by one number. Definitions only.
-use Rattle.std.specs.Prelude.{ℕ, List}
+use Rattle.std.specs.Prelude.{ℕ, List, Option, Some, None}
+use Rattle.refusals.specs.Refusals.{number_of}
+use Rattle.refusals.specs.declared.Refusal.{Refusal}
 use Rattle.lighting.specs.declared.Lighting.{Lighting}
 use Rattle.shading.specs.Shade.{Shaded, shaded}
 use Rattle.block_shading.specs.BlockShading.{eight_of, block_shading}
@@ -9,6 +11,11 @@ use Rattle.capture_lines.specs.Lines.{no_answer}
 -- a block that reads as a lighting
 abbrev pub lit_shades : Lighting → List ℕ → List ℕ → Shaded
 lit_shades lighting tables fragment = shaded 0 (eight_of lighting tables fragment)
+
+-- the number of what is not lit: off, or a refusal's
+abbrev pub unlit_number : Option Refusal → ℕ
+unlit_number None = 100
+unlit_number (Some k) = number_of k
 
 -- a block that is off, or refused
 abbrev pub unlit_shades : ℕ → List ℕ → Shaded

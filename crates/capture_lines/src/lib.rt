@@ -14,6 +14,7 @@ use crate::lit::print_all_lit;
 use crate::unlit::print_all_unlit;
 use block_reading::{is_lit, is_plain};
 use block_shading::is_off;
+use refusals::Refusal;
 
 // The lines of fragments of 23 words each; the place after them.
 // Asks: 32 bytes of room for each fragment; a capture's size bounds how many there are, and a line that does not fit would have no answer.
@@ -28,10 +29,10 @@ pub fn print_fragments(
     ensures { (out_at out.new result ≡ puts (out_at out.old at) (fragment_lines (block_shades block.now tables.now) (length fragments.now / 23) fragments.now)) × (result ≤ at + 32 * (length fragments.now / 23)) }
 {
     if block.len() != 328 {
-        return print_all_unlit(6, fragments, out, at);
+        return print_all_unlit(Some(Refusal::WrongBlock), fragments, out, at);
     }
     if tables.len() != 12288 {
-        return print_all_unlit(2, fragments, out, at);
+        return print_all_unlit(Some(Refusal::WrongTables), fragments, out, at);
     }
     let none = [0u8; 0];
     let form = block_check::form(block, &none);
@@ -39,7 +40,7 @@ pub fn print_fragments(
         return print_all_lit(block, is_plain(form), tables, fragments, out, at);
     }
     if is_off(form) {
-        return print_all_unlit(100, fragments, out, at);
+        return print_all_unlit(None, fragments, out, at);
     }
-    print_all_unlit(7, fragments, out, at)
+    print_all_unlit(Some(Refusal::NotWellFormed), fragments, out, at)
 }

@@ -43,14 +43,9 @@ pub(crate) fn print_all_lit(
     requires tables_len { (length tables.now ≡ 12288) × (at + 32 * (length fragments.now / 23) ≤ length out.old) }
     ensures { (out_at out.new result ≡ puts (out_at out.old at) (fragment_lines (lit_shades (block_lighting (words block.now)) tables.now) (length fragments.now / 23) fragments.now)) × (result ≤ at + 32 * (length fragments.now / 23)) }
 {
-    let count = fragments.len() / 23;
     let mut next = at;
-    let mut i = 0;
-    while i < count {
-        let from = 23 * i;
-        let to = from + 23;
-        next = print_lit(block, plain, tables, &fragments[from..to], out, next);
-        i += 1;
+    for fragment in fragments.as_chunks::<23>().0 {
+        next = print_lit(block, plain, tables, fragment, out, next);
     }
     next
 }

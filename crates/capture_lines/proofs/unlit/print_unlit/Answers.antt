@@ -1,20 +1,17 @@
--- `unlit::print_unlit` meets its contract. The number is not 0, and `off` stands for 100 alone.
-use native.Mathlib.Omega.{arith}
-use borrow.Author.Tests.{ne_eqb}
+-- `unlit::print_unlit` meets its contract: `off`, or the refusal's line.
+use Rattle.std.proofs.Common.{arith}
 use Rattle.capture_lines.specs.Lines.{shown_line}
+use Rattle.capture_lines.specs.LinesLaws.{refused_shown, refusal_small}
 use Rattle.capture_lines.proofs.unlit.print_unlit.Goals as goal
 
-pub returns-then-number-eq100 : goal.returns-then-number-eq100
+pub returns-in-None : goal.returns-in-None
 unfolding shown_line
-returns-then-number-eq100 c =
-    let put = c.put_off in
-    (rw c.if-number-eq100.true put.ensures.0, omega (arith, put.ensures.1))
+returns-in-None c = let put = c.put_off in (rw c.in-None.is put.ensures.0, omega (arith, put.ensures.1))
 
-pub returns : goal.returns
-unfolding shown_line
-returns c =
+pub put_refused-requires : goal.put_refused-requires
+put_refused-requires c = (omega arith, rw c.from.ensures (refusal_small c.in-Some.refusal))
+
+pub returns-in-Some : goal.returns-in-Some
+returns-in-Some c =
     let put = c.put_refused in
-    let n = c.args.number in (
-      rw (ne_eqb n 0 (λ e. omega arith), ne_eqb n 100 c.if-number-eq100.false) put.ensures.0,
-      omega (arith, put.ensures.1),
-    )
+    (rw (c.in-Some.is, refused_shown c.in-Some.refusal, ← c.from.ensures) put.ensures.0, omega (arith, put.ensures.1))
