@@ -8,42 +8,36 @@ ghost use Rattle.lighting.specs.Claims.{LightFits, DistanceFits, LookupFits, Lig
 ghost use Rattle.block.specs.Steps.{lookup_acceptable, optional_lookup_acceptable};
 ghost use Rattle.vectors.specs.Claims.{Vector};
 
-use lighting::{Distance, Light, Lighting, Lookup, Slot, bump_unit, shadow_unit};
+use lighting::{Distance, Light, Lighting, Lookup, bump_unit, shadow_unit};
 
 // Whether no lit light's number is above 7.
 fn numbers_fit(l: Lighting) -> bool
     requires { l.light_count ≤ 8 }
     ensures { result ≡ numbers_fit l }
 {
-    let mut fits = true;
-    let mut slot = Slot(0);
-    while slot.0 < l.light_count {
-        let at = slot.0;
-        let light = l.lights[at];
-        let number = light.number;
-        fits = fits & (number.0 <= 7);
-        slot.0 += 1;
-    }
-    fits
+    l.lights[..l.light_count]
+        .iter()
+        .all(|light| light.number.0 <= 7)
 }
 
+#[tactic(auto, unfolding(lighting::specs::Lighting::in_range))]
 fn in_range(l: Lighting) -> bool
     ensures { result ≡ in_range l }
 {
-    let bump = l.bump;
-    let shadow = l.shadow;
-    if 8 < l.light_count {
-        return false;
-    }
-    (bump_unit(bump) <= 3) & (shadow_unit(shadow) <= 3) & (1 <= l.light_count) & numbers_fit(l)
+    bump_unit(l.bump) <= 3
+        && shadow_unit(l.shadow) <= 3
+        && (1..=8).contains(&l.light_count)
+        && numbers_fit(l)
 }
 
+#[tactic(auto, unfolding(crate::specs::Steps::lookup_acceptable))]
 fn lookup_acceptable(l: Lookup) -> bool
     ensures { result ≡ lookup_acceptable l }
 {
     (l.input < 8) & crate::scale_formed(binary32::word_of(l.scale))
 }
 
+#[tactic(auto, unfolding(crate::specs::Steps::optional_lookup_acceptable))]
 fn optional_lookup_acceptable(lookup: Option<Lookup>) -> bool
     ensures { result ≡ optional_lookup_acceptable lookup }
 {
@@ -53,12 +47,13 @@ fn optional_lookup_acceptable(lookup: Option<Lookup>) -> bool
     }
 }
 
-// Nothing is done by the next seven: they say what the types hold.
+// Nothing is done by the next seven: they say what the types hold, which a proof has from no other place.
 
 fn float_fits(_x: f32)
     ensures { T (fits binary32 _x) }
 {}
 
+#[tactic(auto, using(crate::proofs::accepted::Cases::vector_made))]
 fn vector_fits(v: [f32; 3])
     ensures { Vector v }
 {
@@ -91,76 +86,51 @@ fn lookup_fits(lookup: Option<Lookup>)
 fn light_fits(l: Light)
     ensures { LightFits l }
 {
-    let specular0 = l.specular0;
-    let specular1 = l.specular1;
-    let diffuse = l.diffuse;
-    let ambient = l.ambient;
-    let position = l.position;
-    let direction = l.direction;
-    let spot = l.spot;
-    let distance = l.distance;
-    vector_fits(specular0);
-    vector_fits(specular1);
-    vector_fits(diffuse);
-    vector_fits(ambient);
-    vector_fits(position);
-    vector_fits(direction);
-    vector_fits(spot);
-    distance_fits(distance);
+    vector_fits(l.specular0);
+    vector_fits(l.specular1);
+    vector_fits(l.diffuse);
+    vector_fits(l.ambient);
+    vector_fits(l.position);
+    vector_fits(l.direction);
+    vector_fits(l.spot);
+    distance_fits(l.distance);
 }
 
 fn lights_fit(l: Lighting)
     ensures { LightsFit l }
 {
-    let mut slot = Slot(0);
-    while slot.0 < 8 {
-        let at = slot.0;
-        let light = l.lights[at];
-        light_fits(light);
-        slot.0 += 1;
+    for slot in 0..8 {
+        light_fits(l.lights[slot]);
     }
 }
 
 fn lighting_fits(l: Lighting)
     ensures { LightingFits l }
 {
-    let ambient = l.global_ambient;
-    let distribution0 = l.distribution0;
-    let distribution1 = l.distribution1;
-    let fresnel = l.fresnel;
-    let red = l.reflect_red;
-    let green = l.reflect_green;
-    let blue = l.reflect_blue;
     lights_fit(l);
-    vector_fits(ambient);
-    lookup_fits(distribution0);
-    lookup_fits(distribution1);
-    lookup_fits(fresnel);
-    lookup_fits(red);
-    lookup_fits(green);
-    lookup_fits(blue);
+    vector_fits(l.global_ambient);
+    lookup_fits(l.distribution0);
+    lookup_fits(l.distribution1);
+    lookup_fits(l.fresnel);
+    lookup_fits(l.reflect_red);
+    lookup_fits(l.reflect_green);
+    lookup_fits(l.reflect_blue);
 }
 
 // Whether a lighting is one that `pack` accepts: in range, and of words that would be well formed.
+#[tactic(auto, using(crate::proofs::AcceptedLaws::accepted_is), unfolding(crate::specs::Steps::acceptable))]
 pub fn acceptable(l: Lighting) -> bool
     ensures { result ≡ accepted l }
 {
-    let distribution0 = l.distribution0;
-    let distribution1 = l.distribution1;
-    let fresnel = l.fresnel;
-    let red = l.reflect_red;
-    let green = l.reflect_green;
-    let blue = l.reflect_blue;
-    let spotlight = l.spotlight;
     lighting_fits(l);
     (l.config < 16)
-        & optional_lookup_acceptable(distribution0)
-        & optional_lookup_acceptable(distribution1)
-        & optional_lookup_acceptable(fresnel)
-        & optional_lookup_acceptable(red)
-        & optional_lookup_acceptable(green)
-        & optional_lookup_acceptable(blue)
-        & lookup_acceptable(spotlight)
+        & optional_lookup_acceptable(l.distribution0)
+        & optional_lookup_acceptable(l.distribution1)
+        & optional_lookup_acceptable(l.fresnel)
+        & optional_lookup_acceptable(l.reflect_red)
+        & optional_lookup_acceptable(l.reflect_green)
+        & optional_lookup_acceptable(l.reflect_blue)
+        & lookup_acceptable(l.spotlight)
         & (!l.needs_half | l.needs_view)
         & in_range(l)
 }

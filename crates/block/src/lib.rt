@@ -28,6 +28,7 @@ pub fn slot_at(slot: Slot) -> usize
 }
 
 // Whether it is the word of a scale code's float: 0, or a power of 2 from 0.25 to 8.
+#[tactic(auto, using(crate::specs::WordLaws::scale_is))]
 pub fn scale_formed(n: u32) -> bool
     ensures { result ≡ scale_formed n }
 {

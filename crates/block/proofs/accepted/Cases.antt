@@ -1,25 +1,25 @@
--- What the types say of a distance or a lookup whose case is known, and a lighting's tests put together. Each is computed.
+-- What three floats say of a vector, and what `all` tells of the lit lights.
 -- Assumes nothing.
-use Prim.Native.Nat.{ℕ, zero, suc}
+use Prim.Native.Nat.{ℕ, zero, suc, ◌<◌, ◌≤◌}
 use native.Mathlib.Omega.{arith}
-use mathlib.Core.Path.{◌≡◌, refl, sym, subst}
+use mathlib.Core.Path.{◌≡◌, sym, subst}
 use mathlib.Core.List.{List}
-use mathlib.Core.Bool.{Bool, true, false, not, ◌&&◌, ◌||◌, and-true, and-false}
-use lib.Dec.{leb, ltb, T}
-use lib.ListN.{length, get_or-eq_default}
+use mathlib.Core.Bool.{Bool, true, false}
+use lib.Dec.{leb, T}
+use lib.ListN.{length, get_or, take, get_or-eq_default}
 use lib.Ieee.{Float, nan, binary32, fits}
 use lib.Ieee.Fits.{nan-fits}
-use Rattle.std.specs.Prelude.{None, Option, Some}
+use borrow.Author.Tests.{lt-leb, le-leb}
+use Rattle.std.specs.Bool.{MatchBool}
+use Rattle.std.specs.List.{AllWithin, HoldsAt}
+use Rattle.std.proofs.Common.{length-take-le}
+use Rattle.std.proofs.lemmas.List.{get_or-take}
 use Rattle.vectors.specs.Vectors.{at}
 use Rattle.vectors.specs.Claims.{Vector}
-use Rattle.lighting.specs.declared.Lookup.{Lookup}
-use Rattle.lighting.specs.declared.Distance.{Distance}
+use Rattle.lighting.specs.declared.Light.{Light}
 use Rattle.lighting.specs.declared.Lighting.{Lighting}
-use Rattle.lighting.specs.Lighting.{bump_unit, shadow_unit, numbers_fit, in_range}
-use Rattle.lighting.specs.Claims.{DistanceFits, LookupFits, LightingFits}
-use Rattle.block.specs.Block.{accepted}
-use Rattle.block.specs.Steps.{lookup_acceptable, optional_lookup_acceptable, acceptable}
-use Rattle.block.proofs.AcceptedLaws.{accepted_is}
+use Rattle.lighting.specs.Lighting.{no_light, light_at, numbers_fit}
+use Rattle.block.specs.TestLaws.{every_of, every_bad}
 
 pub vector_made : (v : List Float) → length v ≡ 3 → T (fits binary32 (at v 0)) → T (fits binary32 (at v 1)) → T (fits binary32 (at v 2)) → Vector v
 vector_made v n h0 h1 h2 = record { long = n; fit = each }
@@ -30,36 +30,19 @@ vector_made v n h0 h1 h2 = record { long = n; fit = each }
     each (suc (suc zero)) = h2
     each (suc (suc (suc i))) = subst (λ (x : Float). T (fits binary32 x)) (sym (get_or-eq_default v nan {n = suc (suc (suc i))} (omega arith))) (nan-fits binary32)
 
-pub without_fits : (d : Option Distance) → d ≡ None → DistanceFits d
-without_fits d e = subst (λ (x : Option Distance). DistanceFits x) (sym e) tt
-
-pub scaled_fit : (d : Option Distance) (s : Distance) → d ≡ Some s → T (fits binary32 s.bias) → T (fits binary32 s.scale) → DistanceFits d
-scaled_fit d s e h k = subst (λ (x : Option Distance). DistanceFits x) (sym e) (h, k)
-
-pub missing_fits : (o : Option Lookup) → o ≡ None → LookupFits o
-missing_fits o e = subst (λ (x : Option Lookup). LookupFits x) (sym e) tt
-
-pub present_fits : (o : Option Lookup) (l : Lookup) → o ≡ Some l → T (fits binary32 l.scale) → LookupFits o
-present_fits o l e h = subst (λ (x : Option Lookup). LookupFits x) (sym e) h
-
-pub count_fails : (l : Lighting) → leb l.light_count 8 ≡ false → false ≡ in_range l
-unfolding in_range
-count_fails l e = rw (e, and-false) refl
-
-pub count_holds : (l : Lighting) (b s : ℕ) (n : Bool) → leb l.light_count 8 ≡ true → b ≡ bump_unit l.bump → s ≡ shadow_unit l.shadow → n ≡ numbers_fit l
-    → (leb b 3 && leb s 3 && leb 1 l.light_count && n) ≡ in_range l
-unfolding in_range
-count_holds l b s n e p q r = rw (e, and-true, p, q, r) refl
-
-pub acceptable_made : (l : Lighting) (d0 d1 f r g u s i : Bool) → LightingFits l
-    → d0 ≡ optional_lookup_acceptable l.distribution0
-    → d1 ≡ optional_lookup_acceptable l.distribution1
-    → f ≡ optional_lookup_acceptable l.fresnel
-    → r ≡ optional_lookup_acceptable l.reflect_red
-    → g ≡ optional_lookup_acceptable l.reflect_green
-    → u ≡ optional_lookup_acceptable l.reflect_blue
-    → s ≡ lookup_acceptable l.spotlight
-    → i ≡ in_range l
-    → (ltb l.config 16 && d0 && d1 && f && r && g && u && s && (not l.needs_half || l.needs_view) && i) ≡ accepted l
-unfolding acceptable
-acceptable_made l d0 d1 f r g u s i h e1 e2 e3 e4 e5 e6 e7 e8 = rw (e1, e2, e3, e4, e5, e6, e7, e8) (sym (accepted_is l h))
+-- the test of the lit lights by what `all` tells of them
+pub numbers_told : (l : Lighting) (r : Bool) → length l.lights ≡ 8 → l.light_count ≤ 8
+    → MatchBool r (AllWithin (λ (x : Light). x.number.0 ≤ 7) (take l.light_count l.lights) 0 (length (take l.light_count l.lights)))
+    ((k : ℕ) × (k < length (take l.light_count l.lights)) × HoldsAt (λ (x : Light). 7 < x.number.0) (take l.light_count l.lights) k)
+    → r ≡ numbers_fit l
+unfolding numbers_fit light_at
+numbers_told l true n few m =
+    let long : length (take l.light_count l.lights) ≡ l.light_count = length-take-le l.light_count l.lights (omega arith) in
+    sym (every_of l.light_count (λ s. leb (get_or l.lights s no_light).number.0 7)
+    (λ i h. le-leb _ 7 (subst (λ (x : Light). x.number.0 ≤ 7) (get_or-take l.light_count l.lights i no_light h) (m i no_light (omega arith) (omega arith)))))
+numbers_told l false n few m =
+    let long : length (take l.light_count l.lights) ≡ l.light_count = length-take-le l.light_count l.lights (omega arith) in
+    let k = m.0 in
+    let h : k < l.light_count = omega (arith, m.1) in
+    sym (every_bad l.light_count (λ s. leb (get_or l.lights s no_light).number.0 7) k h
+    (lt-leb _ _ (subst (λ (x : Light). 7 < x.number.0) (get_or-take l.light_count l.lights k no_light h) (m.2 no_light))))

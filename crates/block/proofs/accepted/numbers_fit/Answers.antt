@@ -1,19 +1,15 @@
--- `accepted::numbers_fit` meets its contract. The loop's invariant: what is kept is the test of the lights before the slot.
-use native.Mathlib.Numerals.{add-one}
-use native.Mathlib.Omega.{arith}
-use mathlib.Core.Path.{◌≡◌, refl}
-use Rattle.lighting.specs.Forms.{every}
-use Rattle.lighting.specs.Lighting.{light_at, numbers_fit}
+-- `accepted::numbers_fit` meets its contract: what holds of each lit light holds below the count.
+use Rattle.std.proofs.Common.{rules, take, length, ◌≡◌, ◌≤◌, ◌<◌}
+use Rattle.std.proofs.lemmas.Iterator.{cases_from_all, YieldsList-from_slice}
+use borrow.Author.Tests.{tests}
+use Rattle.lighting.specs.declared.Light.{Light}
+use Rattle.block.proofs.accepted.Cases.{numbers_told}
 use Rattle.block.proofs.accepted.numbers_fit.Goals as goal
 
-pub loop-slot-init : goal.loop-slot-init
-unfolding every
-loop-slot-init c = (omega arith, refl)
-
-pub loop-slot-preserved : goal.loop-slot-preserved
-unfolding every light_at
-loop-slot-preserved c = (omega arith, rw add-one (simp c.loop-slot.invariant.1))
-
 pub returns : goal.returns
-unfolding numbers_fit
-returns c = let e : c.loop-slot.slot.0 ≡ c.args.l.light_count = omega arith in rw e at c.loop-slot.invariant.1
+returns c =
+    let lit = take c.args.l.light_count c.args.l.lights in
+    let eight : length c.args.l.lights ≡ 8 = search rules in
+    numbers_told c.args.l _ eight c.requires
+    (cases_from_all _ _ _ (λ (x : Light). x.number.0 ≤ 7) (λ (x : Light). 7 < x.number.0) c.all.ensures.ran (YieldsList-from_slice lit c.iter.ensures.rest)
+    (λ x q k. search (rules, tests)) (λ x q k. search (rules, tests)))
