@@ -14,7 +14,7 @@ use Rattle.tables.specs.Tables.{interpolated, table_lookup}
 use Rattle.lighting.specs.Lighting.{blank_light, light_at}
 use Rattle.decoding.specs.Read.{flatten, supported, scale_of, bump, shadow, config, lookup, table, light_count, light_number, light, lighting, read}
 use Rattle.shading.specs.Shade.{map_or, is_some_and, shadow_of as shadow_taken, bumped, surface_normal_of, surface_tangent_of, lookup_at, distance_of as distance_taken, sided, value_of, results_of, with_light, with_lights, shade}
-use Rattle.block_shading.specs.BlockShading.{float_at, four_at, quaternion_of, view_of, texels_of, eight_of}
+use Rattle.block_shading.specs.BlockShading.{float_at, four_at, quaternion_of, view_of, texels_of, eight_of, shaded_by}
 use Rattle.lists.specs.Claim.{shade_from}
 
 -- registers of a fresh unit, and its tables
@@ -53,5 +53,5 @@ pub record Colours : Type 0 where
   pub lit : (shade_from lantern ones fragment answer).answer ≡ 255 ∷ 255 ∷ 255 ∷ 255 ∷ 0 ∷ 0 ∷ 0 ∷ 255 ∷ []
 
 pub colours : Colours
-unfolding neg add sub mul div lt eq is_nan of_int of_bits to_unsigned to_signed root_of magnitude_of before max_of min_of clamp_of floor_of unsigned_place_of quantized_of channel_of colour_channel colour_field colour_of signed13 fixed_of short_exponent short_sign short_word short_float plus_of minus_of times_of over_of dot_of cross_of normalized_of axis_of turn_of plus_twice rotate_of interpolated table_lookup blank_light supported scale_of flatten bump shadow config lookup table light_count light_number light lighting read float_at four_at quaternion_of view_of texels_of eight_of shade_from map_or is_some_and shadow_taken bumped surface_normal_of surface_tangent_of lookup_at distance_taken sided value_of results_of with_light with_lights shade light_at
+unfolding neg add sub mul div lt eq is_nan of_int of_bits to_unsigned to_signed root_of magnitude_of before max_of min_of clamp_of floor_of unsigned_place_of quantized_of channel_of colour_channel colour_field colour_of signed13 fixed_of short_exponent short_sign short_word short_float plus_of minus_of times_of over_of dot_of cross_of normalized_of axis_of turn_of plus_twice rotate_of interpolated table_lookup blank_light supported scale_of flatten bump shadow config lookup table light_count light_number light lighting read float_at four_at quaternion_of view_of texels_of eight_of shaded_by shade_from map_or is_some_and shadow_taken bumped surface_normal_of surface_tangent_of lookup_at distance_taken sided value_of results_of with_light with_lights shade light_at
 colours = record { black = refl; white = refl; unlit = refl; lit = refl }

@@ -1,6 +1,7 @@
 -- Demand 3 fails for a shader that paints one colour wherever the lighting is on: two lists end in lightings that are on, and the definition gives
 -- black after one and white after the other. Assumes nothing.
 use Prim.Native.Nat.{ℕ}
+use Rattle.std.specs.Prelude.{is_some}
 use native.Mathlib.Omega.{arith}
 use mathlib.Core.Path.{◌≡◌, refl, sym, ap, ◌∙◌}
 use mathlib.Core.List.{List, [], ◌∷◌}
@@ -27,7 +28,7 @@ use Rattle.lists.proofs.Refuted.{shade_on, fresh_sound, hands_over_lem}
 use Rattle.lists.proofs.Colours.{empty, fragment, answer, dark, bright, colours}
 
 -- a shader that paints one colour, from the block of a lighting that is on
-paints : (cs b e r x : List ℕ) → b ≡ packed_reading (read r) → length e ≡ 12288 → (read r).on ≡ true → painted cs (block_shading b e fragment answer) ≡ shade_from r x fragment answer → cs ≡ (shade_from r x fragment answer).answer
+paints : (cs b e r x : List ℕ) → b ≡ packed_reading (read r) → length e ≡ 12288 → is_some (read r) ≡ true → painted cs (block_shading b e fragment answer) ≡ shade_from r x fragment answer → cs ≡ (shade_from r x fragment answer).answer
 unfolding painted
 paints cs b e r x h n o q =
     let k : (block_shading b e fragment answer).number ≡ 0 =
@@ -40,11 +41,11 @@ write register value = Write own own register value
 hand_over : Call
 hand_over = HandOver own own own own
 
-dark-on : (read dark).on ≡ true
+dark-on : is_some (read dark) ≡ true
 unfolding read
 dark-on = refl
 
-bright-on : (read bright).on ≡ true
+bright-on : is_some (read bright) ≡ true
 unfolding read
 bright-on = refl
 

@@ -2,19 +2,18 @@
 -- other cache is decoded anew. Assumes nothing.
 use Prim.Native.Nat.{ℕ, zero, suc, ◌+◌, ◌≤◌}
 use Rattle.std.proofs.Common.{arith, sym, ◌∙◌, inl, get_or-take, take-take, lit<, lit≤}
-use Rattle.std.specs.Prelude.{◌≡◌, List, [], ◌∷◌, Bool, true, false, cond, ◌&&◌, length, take, drop, eqb}
+use Rattle.std.specs.Prelude.{◌≡◌, List, [], ◌∷◌, Bool, true, false, cond, length, take, drop, eqb, Option, None, Some, unwrap_or}
 use Rattle.std.proofs.Math.Path.{refl, ap, subst}
+use Rattle.std.proofs.lemmas.Bool.{false≢true}
 use Rattle.std.proofs.Math.Dec.{leb, eqb-suc-zero}
-use Rattle.flags.specs.FlagsLaws.{both_true}
 use Rattle.refusals.specs.Refusals.{file_refusal}
 use Rattle.tables.specs.RefusalLaws.{passed_test}
 use Rattle.decoding.specs.Read.{read, registers_read}
 use Rattle.decoding.specs.DecodeLaws.{read_same}
 use Rattle.unit.specs.declared.Cache.{Cache}
-use Rattle.sources.specs.Sources.{same_words}
 use Rattle.decoding.specs.ComparingLaws.{same_equal}
 use Rattle.unit.specs.HandOverLaws.{long_file}
-use Rattle.unit.specs.Unit.{current, read_anew, refreshed, cached_read_if}
+use Rattle.unit.specs.Unit.{keeps, current, read_anew, refreshed, cached_read_if}
 use Rattle.lists.specs.Ours.{ours}
 use Rattle.lists.specs.States.{State, unit_state, state}
 use Rattle.lists.specs.Calls.{Lent, ShortFile, lent, step, answer}
@@ -37,19 +36,22 @@ unfolding registers_read
 kept_first f =
     rw (get_or-take 474 f 0x08F 0 (lit< tt), part_take 133 0x140 474 f (lit≤ tt), get_or-take 474 f 0x1C6 0 (lit< tt), part_take 3 0x1D0 474 f (lit≤ tt), get_or-take 474 f 0x1D9 0 (lit< tt))
 
+kept_words : (o : Option (List ℕ)) (ws : List ℕ) → keeps o ws ≡ true → o ≡ Some ws
+unfolding keeps
+kept_words None ws e = absurd (false≢true e)
+kept_words (Some kept) ws e = ap (λ (l : List ℕ). Some l) (same_equal kept ws e)
+
 -- a read of a sound cache gives the file's lighting, and leaves the cache sound
 pub read_sound : (f : List ℕ) (c : Cache) → Sound c → ((refreshed f c).decoded ≡ read f) × Sound (refreshed f c)
 unfolding refreshed current read_anew
-read_sound f c g = go (c.filled && same_words c.kept (registers_read f)) refl
+read_sound f c g = go (keeps c.kept (registers_read f)) refl
   where
     made : Cache
-    made = record { filled = true; kept = registers_read f; decoded = read f }
+    made = record { kept = Some (registers_read f); decoded = read f }
 
-    go : (b : Bool) → (c.filled && same_words c.kept (registers_read f)) ≡ b → ((cond b c made).decoded ≡ read f) × Sound (cond b c made)
-    go true e =
-        let both = both_true c.filled (same_words c.kept (registers_read f)) e in
-        (sym (g both.0 f (sym (same_equal c.kept (registers_read f) both.1))), g)
-    go false e = (refl, λ _ r p. read_same r f p)
+    go : (b : Bool) → keeps c.kept (registers_read f) ≡ b → ((cond b c made).decoded ≡ read f) × Sound (cond b c made)
+    go true e = (sym (g f (kept_words c.kept (registers_read f) e)), g)
+    go false e = (refl, λ r p. read_same r f (sym (ap (λ (o : Option (List ℕ)). unwrap_or o []) p)))
 
 module _ {n k : ℕ} {s : State Cache} {m : Machine} (i : Inv n k s m) where
   -- the file's lighting is the machine's

@@ -1,12 +1,14 @@
 -- Demand 3 fails for the wrong implementations: each has a list after which block shading answers otherwise than the machine's registers and
 -- entries ask. Assumes nothing.
 use Prim.Native.Nat.{ℕ}
+use Rattle.std.specs.Prelude.{Option, None, Some, is_some}
 use native.Mathlib.Omega.{arith}
 use mathlib.Core.Path.{◌≡◌, refl, sym, ap, ◌∙◌}
 use mathlib.Core.List.{List, [], ◌∷◌}
 use mathlib.Core.Bool.{true, false, cond, false≢true}
 use lib.ListN.{length, set, replicate}
 use lib.Dec.{eqb, lit<, lit≤}
+use Rattle.lighting.specs.declared.Lighting.{Lighting}
 use Rattle.decoding.specs.Read.{read}
 use Rattle.block.specs.Block.{packed_reading}
 use Rattle.refusals.specs.Refusals.{file_refusal, tables_refusal, saved_refusal, block_refusal}
@@ -15,7 +17,7 @@ use Rattle.unit.specs.declared.Cache.{Cache}
 use Rattle.unit.specs.Unit.{fresh_cache, refreshed, Handed, handed, hand_over_refusal, taken, hand_over_read, hand_over_if}
 use Rattle.unit.specs.DecodedLaws.{decoded_packable}
 use Rattle.shading.specs.Shade.{Shaded}
-use Rattle.block_shading.specs.BlockShading.{block_shading}
+use Rattle.block_shading.specs.BlockShading.{shaded_by, block_shading}
 use Rattle.lists.specs.ShadesLaws.{block_shades_lem}
 use Rattle.lists.specs.States.{State, fresh}
 use Rattle.lists.specs.Calls.{Call, step, run}
@@ -28,31 +30,43 @@ use Rattle.lists.proofs.ReadCallLaws.{read_sound}
 use Rattle.lists.specs.Wrong.{refuses_writes, paints_one, copying_nothing, copies_nothing, copying_once, copies_once}
 
 -- a fresh unit's lighting is off, and on once bit 0 of 8F is set
-fresh_off : (read (replicate 474 0)).on ≡ false
+fresh_off : is_some (read (replicate 474 0)) ≡ false
 unfolding read
 fresh_off = refl
 
-switched_on : (read (set (replicate 474 0) 0x08F 1)).on ≡ true
+switched_on : is_some (read (set (replicate 474 0) 0x08F 1)) ≡ true
 unfolding read
 switched_on = refl
 
 -- the number that block shading is to answer with
-pub shade_on : (r e q a : List ℕ) → (read r).on ≡ true → (shade_from r e q a).number ≡ 0
-unfolding shade_from
-shade_on r e q a h = rw h refl
+pub shade_on : (r e q a : List ℕ) → is_some (read r) ≡ true → (shade_from r e q a).number ≡ 0
+unfolding shade_from shaded_by
+shade_on r e q a h = go (read r) h
+  where
+    go : (d : Option Lighting) → is_some d ≡ true → (shaded_by d e q a).number ≡ 0
+    go None h = absurd (false≢true h)
+    go (Some l) h = refl
 
-shade_off : (r e q a : List ℕ) → (read r).on ≡ false → (shade_from r e q a).number ≡ 100
-unfolding shade_from
-shade_off r e q a h = rw h refl
+shade_off : (r e q a : List ℕ) → is_some (read r) ≡ false → (shade_from r e q a).number ≡ 100
+unfolding shade_from shaded_by
+shade_off r e q a h = go (read r) h
+  where
+    go : (d : Option Lighting) → is_some d ≡ false → (shaded_by d e q a).number ≡ 100
+    go None h = refl
+    go (Some l) h = absurd (false≢true (sym h))
 
 -- a lighting that is off leaves a block of zeros
-packed_off : (f : List ℕ) → (read f).on ≡ false → packed_reading (read f) ≡ replicate 328 0
+packed_off : (f : List ℕ) → is_some (read f) ≡ false → packed_reading (read f) ≡ replicate 328 0
 unfolding packed_reading
-packed_off f h = rw h refl
+packed_off f h = go (read f) h
+  where
+    go : (d : Option Lighting) → is_some d ≡ false → packed_reading d ≡ replicate 328 0
+    go None h = refl
+    go (Some l) h = absurd (false≢true (sym h))
 
 pub fresh_sound : Sound fresh_cache
 unfolding fresh_cache
-fresh_sound e = absurd (false≢true e)
+fresh_sound f e = absurd (false≢true (ap is_some e))
 
 -- a hand-over that no length refuses, from a sound cache: the copy takes the block, and at another generation the tables and the generation
 pub hands_over_lem : (f t : List ℕ) (g : ℕ) (c : Cache) (b ct : List ℕ) (cg : ℕ) → Sound c → hand_over_refusal (length f) (length t) (length ct) (length b) ≡ 0 → hand_over_if (hand_over_refusal (length f) (length t) (length ct) (length b)) f t g c b ct cg ≡ cond (eqb g cg) (handed 0 (refreshed f c) (packed_reading (read f)) ct cg) (handed 0 (refreshed f c) (packed_reading (read f)) t g)
@@ -84,7 +98,7 @@ zeros_off b e h n =
     (ap (λ (s : Shaded). s.number) (block_shades_lem (replicate 474 0) e fragment answer n refl refl) ∙ shade_off (replicate 474 0) e fragment answer fresh_off)
 
 -- a copy of zeros while the machine's lighting is on
-stale : (b e r x : List ℕ) → b ≡ replicate 328 0 → length e ≡ 12288 → (read r).on ≡ true → block_shading b e fragment answer ≡ shade_from r x fragment answer → ⊥
+stale : (b e r x : List ℕ) → b ≡ replicate 328 0 → length e ≡ 12288 → is_some (read r) ≡ true → block_shading b e fragment answer ≡ shade_from r x fragment answer → ⊥
 stale b e r x h n o q =
     omega (arith, sym (zeros_off b e h n) ∙ ap (λ (s : Shaded). s.number) q ∙ shade_on r x fragment answer o)
 

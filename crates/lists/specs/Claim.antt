@@ -1,8 +1,8 @@
 -- Demand 3: "a single claim about every list, not one for each call", said of an implementation. Definitions only.
-use Rattle.std.specs.Prelude.{ℕ, ◌+◌, ◌≤◌, ◌<◌, ◌≡◌, List, [], ◌∷◌, true, length, eqb, if◌then◌else◌}
+use Rattle.std.specs.Prelude.{ℕ, ◌+◌, ◌≤◌, ◌<◌, ◌≡◌, List, [], ◌∷◌, true, length, eqb}
 use Rattle.decoding.specs.Read.{read}
-use Rattle.shading.specs.Shade.{Shaded, shaded}
-use Rattle.block_shading.specs.BlockShading.{eight_of}
+use Rattle.shading.specs.Shade.{Shaded}
+use Rattle.block_shading.specs.BlockShading.{shaded_by}
 use Rattle.lists.specs.States.{CopyState, State, fresh, Implementation}
 use Rattle.lists.specs.Calls.{Call, run, answer}
 use Rattle.lists.specs.Calls.Call.{Write, Restore, Read, HandOver}
@@ -24,9 +24,7 @@ EndsHandedOver n (c ∷ d ∷ cs) = EndsHandedOver n (d ∷ cs)
 -- "It returns 100 and leaves the answer untouched exactly when the machine's registers decode as off; else it returns 0, and the answer is the
 -- eight k, in printed order, that the definition gives from the machine's registers and entries."
 unfoldable pub shade_from : List ℕ → List ℕ → List ℕ → List ℕ → Shaded
-shade_from registers entries fragment answer =
-    let d = read registers in
-    if d.on then shaded 0 (eight_of d.lighting entries fragment) else shaded 100 answer
+shade_from registers entries fragment answer = shaded_by (read registers) entries fragment answer
 
 module _ {C : Type 0} (I : Implementation C) where
   -- "block shading takes the copy's block and tables, 23 words of any bits and an answer of 8 words"

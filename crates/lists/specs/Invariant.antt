@@ -1,6 +1,6 @@
 -- Serves the proof of demand 3 only, and nobody has to trust it: what holds of unit, copy and plain machine after every list of calls, and more
 -- after an accepted hand-over. Definitions only.
-use Rattle.std.specs.Prelude.{ℕ, ◌+◌, ◌≤◌, ◌≡◌, List, ◌⊎◌, true, length, take}
+use Rattle.std.specs.Prelude.{ℕ, ◌+◌, ◌≤◌, ◌≡◌, List, ◌⊎◌, length, take, Some}
 use Rattle.unit.specs.declared.Cache.{Cache}
 use Rattle.decoding.specs.Read.{read, registers_read}
 use Rattle.block.specs.Block.{packed_reading}
@@ -14,7 +14,7 @@ Rises u w =
 
 -- a cache is empty, or holds the lighting of every register file with its kept words
 abbrev pub Sound : Cache → Type 0
-Sound c = c.filled ≡ true → (f : List ℕ) → registers_read f ≡ c.kept → read f ≡ c.decoded
+Sound c = (f : List ℕ) → c.kept ≡ Some (registers_read f) → read f ≡ c.decoded
 
 -- the unit, whose file has n words, holds what the machine holds
 pub record Matches (n : ℕ) (u : UnitState Cache) (m : Machine) : Type 0 where

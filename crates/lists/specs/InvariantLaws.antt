@@ -1,6 +1,6 @@
 -- The invariant holds of what is fresh, stays over a call that changes nothing, and over one that changes the unit alone: the generation either
 -- stays with the tables, or passes the copy's. Assumes nothing.
-use Rattle.std.specs.Prelude.{ℕ, zero, suc, ◌≤◌, ◌<◌, ◌≡◌, refl, List, ◌∷◌, false, take, replicate}
+use Rattle.std.specs.Prelude.{ℕ, zero, suc, ◌≤◌, ◌<◌, ◌≡◌, refl, List, ◌∷◌, false, take, replicate, is_some}
 use Rattle.std.proofs.Common.{arith, le_refl, sym, ap, ◌∙◌, inl, inr}
 use Rattle.std.proofs.lemmas.Bool.{false≢true}
 use Rattle.std.proofs.lemmas.List.{length-replicate}
@@ -27,7 +27,7 @@ fresh_holds n big =
             registers = take_zeros 474 n big;
             entries = refl;
             tables_length = length-replicate {A = ℕ} 12288 0;
-            sound = λ e. absurd (false≢true e);
+            sound = λ f e. absurd (false≢true (ap is_some e));
           };
       block_length = length-replicate {A = ℕ} 328 0;
       copy_length = length-replicate {A = ℕ} 12288 0;

@@ -1,8 +1,8 @@
 -- Block shading of the block of a register file's lighting answers as the definition does from the registers: the block is not refused, and reads
 -- back as the lighting that was decoded. Assumes nothing.
-use Rattle.std.specs.Prelude.{ℕ, ◌≡◌, refl, List, true, length}
+use Rattle.std.specs.Prelude.{ℕ, ◌≡◌, refl, List, true, length, Option}
 use Rattle.refusals.specs.Refusals.{block_refusal, tables_refusal, fragment_refusal, answer_refusal}
-use Rattle.lighting.specs.declared.OptionalLighting.{OptionalLighting}
+use Rattle.lighting.specs.declared.Lighting.{Lighting}
 use Rattle.decoding.specs.Read.{read}
 use Rattle.block.specs.Block.{words, packed_reading, words_refusal}
 use Rattle.unit.specs.Unit.{packable}
@@ -11,7 +11,7 @@ use Rattle.block_shading.specs.BlockShading.{shaded_by, block_shading_refusal, b
 use Rattle.lists.specs.Claim.{shade_from}
 
 -- the block of a lighting that is packed, or off, is not refused
-packed_passes : (d : OptionalLighting) → packable d ≡ true → words_refusal (words (packed_reading d)) ≡ 0
+packed_passes : (d : Option Lighting) → packable d ≡ true → words_refusal (words (packed_reading d)) ≡ 0
 unfolding words_refusal
 packed_passes d h = rw (packed_formed d h) refl
 
