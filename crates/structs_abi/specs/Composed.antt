@@ -1,7 +1,7 @@
 -- For tests alone: calls on the structs, composed so that words go in and words come out. Definitions only.
-use Rattle.std.specs.Prelude.{ℕ, zero, suc, cond, List, length}
+use Rattle.std.specs.Prelude.{ℕ, zero, suc, List, length, Option, None, Some}
 use Rattle.refusals.specs.Refusals.{fragment_refusal}
-use Rattle.lighting.specs.declared.OptionalLighting.{OptionalLighting}
+use Rattle.lighting.specs.declared.Lighting.{Lighting}
 use Rattle.decoding.specs.Read.{file_read}
 use Rattle.block.specs.Block.{Packing, packing, packs, block_read}
 use Rattle.unit.specs.declared.Cache.{Cache}
@@ -12,16 +12,17 @@ use Rattle.block_shading.specs.BlockShading.{quaternion_of, view_of, texels_of}
 -- ---- reading, then shading
 
 -- what `shade` gives of a fragment's words by a reading: 100 where it is off
-unfoldable pub shades_reading : OptionalLighting → List ℕ → List ℕ → List ℕ → Shaded
-shades_reading d t q a = cond d.on (shades d.lighting t (quaternion_of q) (view_of q) (texels_of q) a) (shaded 100 a)
+unfoldable pub shades_reading : Option Lighting → List ℕ → List ℕ → List ℕ → Shaded
+shades_reading None t q a = shaded 100 a
+shades_reading (Some l) t q a = shades l t (quaternion_of q) (view_of q) (texels_of q) a
 
 -- by the number of the read
-unfoldable pub shades_if : ℕ → OptionalLighting → List ℕ → List ℕ → List ℕ → Shaded
+unfoldable pub shades_if : ℕ → Option Lighting → List ℕ → List ℕ → List ℕ → Shaded
 shades_if zero d t q a = shades_reading d t q a
 shades_if (suc k) d t q a = shaded (suc k) a
 
 -- by the number of the fragment's words, 9 before all else
-unfoldable pub shades_of : ℕ → ℕ → OptionalLighting → List ℕ → List ℕ → List ℕ → Shaded
+unfoldable pub shades_of : ℕ → ℕ → Option Lighting → List ℕ → List ℕ → List ℕ → Shaded
 shades_of zero k d t q a = shades_if k d t q a
 shades_of (suc n) k d t q a = shaded (suc n) a
 
@@ -35,8 +36,9 @@ shade_reading b t q a = shades_of (fragment_refusal (length q)) (block_read b).n
 
 -- ---- two cached reads from an empty cache, the second packed
 
-unfoldable pub packs_if : ℕ → OptionalLighting → List ℕ → Packing
-packs_if zero d b = cond d.on (packs d.lighting b) (packing 100 b)
+unfoldable pub packs_if : ℕ → Option Lighting → List ℕ → Packing
+packs_if zero None b = packing 100 b
+packs_if zero (Some l) b = packs l b
 packs_if (suc k) d b = packing (suc k) b
 
 abbrev pub second : List ℕ → List ℕ → Cached Cache

@@ -1,61 +1,64 @@
--- For tests alone: a composed call goes on where the read's number is 0, with what the read gives, and else gives that number. Assumes nothing.
-use Prim.Native.Nat.{ℕ, zero, suc}
-use Rattle.std.proofs.Common.{sym, ◌∙◌}
-use Rattle.std.specs.Prelude.{◌≡◌, List, length}
-use Rattle.std.proofs.Math.Path.{refl, ap}
-use Rattle.refusals.specs.Refusals.{outcome_number, fragment_refusal}
-use Rattle.lighting.specs.declared.OptionalLighting.{OptionalLighting}
-use Rattle.decoding.specs.declared.LightingRead.{LightingRead}
+-- For tests alone: a composed call goes on where the read answers, with what the read gives, and else gives the refusal's number. Assumes nothing.
+use Rattle.std.specs.Prelude.{ℕ, zero, suc, ◌≡◌, List, length, Option, Result, Ok, Err}
+use Rattle.std.proofs.Common.{refl, sym, ap, ◌∙◌}
+use Rattle.std.specs.Result.{result_unwrap_or}
+use Rattle.refusals.specs.declared.Refusal.{Refusal}
+use Rattle.refusals.specs.Refusals.{number_of, fragment_refusal}
+use Rattle.tables.specs.RefusalLaws.{refusal_not_zero}
+use Rattle.lighting.specs.declared.Lighting.{Lighting}
 use Rattle.decoding.specs.Read.{FileRead, file_read, file_read_of}
-use Rattle.block.specs.declared.BlockRead.{BlockRead}
 use Rattle.block.specs.Block.{packing, BlockAnswer, block_read, answer_of}
 use Rattle.unit.specs.declared.Cache.{Cache}
-use Rattle.unit.specs.declared.CachedRead.{CachedRead}
 use Rattle.unit.specs.Unit.{Cached, fresh_cache, cached_read, cached_of}
 use Rattle.shading.specs.Shade.{shaded}
-use Rattle.structs_abi.specs.Composed.{shades_reading, shades_if, shades_of, shade_file, shade_reading, packs_if, second, cached_reads}
+use Rattle.structs_abi.specs.Composed.{shades_reading, shades_if, shades_of, shade_file, shade_reading, packs_if, cached_reads}
 
--- a read that gives the number k and the reading d
-module _ (k : ℕ) (d : OptionalLighting) (t q a : List ℕ) (n : length q ≡ 23) where
-  goes_on : k ≡ 0 → shades_reading d t q a ≡ shades_of (fragment_refusal (length q)) k d t q a
+module _ (t q a : List ℕ) (n : length q ≡ 23) where
+  goes_on : (d : Option Lighting) → shades_reading d t q a ≡ shades_of (fragment_refusal (length q)) 0 d t q a
   unfolding shades_of shades_if fragment_refusal
-  goes_on e = rw (n, e) refl
+  goes_on d = rw n refl
 
-  gives_number : (m : ℕ) → (m ≡ 0 → ⊥) → k ≡ m → shaded m a ≡ shades_of (fragment_refusal (length q)) k d t q a
+  gives_number : (m : ℕ) (d : Option Lighting) → (m ≡ 0 → ⊥) → shaded m a ≡ shades_of (fragment_refusal (length q)) m d t q a
   unfolding shades_of shades_if fragment_refusal
-  gives_number zero h e = absurd (h refl)
-  gives_number (suc m) h e = rw (n, e) refl
+  gives_number zero d h = absurd (h refl)
+  gives_number (suc m) d h = rw n refl
 
--- `read` of a file
-pub done : (f t q a : List ℕ) (r : LightingRead) → length q ≡ 23 → file_read_of r ≡ file_read f → outcome_number r.outcome ≡ 0 → shades_reading r.decoded t q a ≡ shade_file f t q a
-done f t q a r n e z =
-    goes_on (outcome_number r.outcome) r.decoded t q a n z ∙ ap (λ (x : FileRead). shades_of (fragment_refusal (length q)) x.number x.lighting t q a) e
+  -- `read` of a file
+  pub done : (f : List ℕ) (d : Option Lighting) → file_read_of (Ok d) ≡ file_read f → shades_reading d t q a ≡ shade_file f t q a
+  done f d e = goes_on d ∙ ap (λ (x : FileRead). shades_of (fragment_refusal (length q)) x.number x.lighting t q a) e
 
-pub refused : (f t q a : List ℕ) (r : LightingRead) (m p : ℕ) → length q ≡ 23 → (m ≡ 0 → ⊥) → p ≡ m → file_read_of r ≡ file_read f → outcome_number r.outcome ≡ m → shaded p a ≡ shade_file f t q a
-refused f t q a r m p n h g e z =
-    ap (λ (k : ℕ). shaded k a) g ∙ gives_number (outcome_number r.outcome) r.decoded t q a n m h z ∙ ap (λ (x : FileRead). shades_of (fragment_refusal (length q)) x.number x.lighting t q a) e
+  pub refused : (f : List ℕ) (k : Refusal) → file_read_of (Err k) ≡ file_read f → shaded (number_of k) a ≡ shade_file f t q a
+  refused f k e = gives_number (number_of k) _ (refusal_not_zero k) ∙ ap (λ (x : FileRead). shades_of (fragment_refusal (length q)) x.number x.lighting t q a) e
 
--- `read_block` of a block
-pub read_done : (b t q a : List ℕ) (r : BlockRead) → length q ≡ 23 → answer_of r ≡ block_read b → outcome_number r.outcome ≡ 0 → shades_reading r.reading t q a ≡ shade_reading b t q a
-read_done b t q a r n e z =
-    goes_on (outcome_number r.outcome) r.reading t q a n z ∙ ap (λ (x : BlockAnswer). shades_of (fragment_refusal (length q)) x.number x.reading t q a) e
+  -- `read_block` of a block
+  pub read_done : (b : List ℕ) (d : Option Lighting) → answer_of (Ok d) ≡ block_read b → shades_reading d t q a ≡ shade_reading b t q a
+  read_done b d e = goes_on d ∙ ap (λ (x : BlockAnswer). shades_of (fragment_refusal (length q)) x.number x.reading t q a) e
 
-pub read_refused : (b t q a : List ℕ) (r : BlockRead) (m p : ℕ) → length q ≡ 23 → (m ≡ 0 → ⊥) → p ≡ m → answer_of r ≡ block_read b → outcome_number r.outcome ≡ m → shaded p a ≡ shade_reading b t q a
-read_refused b t q a r m p n h g e z =
-    ap (λ (k : ℕ). shaded k a) g ∙ gives_number (outcome_number r.outcome) r.reading t q a n m h z ∙ ap (λ (x : BlockAnswer). shades_of (fragment_refusal (length q)) x.number x.reading t q a) e
+  pub read_refused : (b : List ℕ) (k : Refusal) → answer_of (Err k) ≡ block_read b → shaded (number_of k) a ≡ shade_reading b t q a
+  read_refused b k e = gives_number (number_of k) _ (refusal_not_zero k) ∙ ap (λ (x : BlockAnswer). shades_of (fragment_refusal (length q)) x.number x.reading t q a) e
 
--- two cached reads
-module _ (f o b : List ℕ) (c : Cache) (r s : CachedRead) (ec : c ≡ fresh_cache) (er : cached_of r ≡ cached_read f c) (es : cached_of s ≡ cached_read o r.cache) where
-  second_is : cached_of s ≡ second f o
-  second_is = es ∙ ap (λ (x : Cached Cache). cached_read o x.cache) (er ∙ ap (cached_read f) ec)
+-- a read that is refused leaves the cache
+cache_after : (r : Result Cache Refusal) (c : Cache) → (cached_of r c).cache ≡ result_unwrap_or r c
+cache_after (Ok d) c = refl
+cache_after (Err k) c = refl
 
-  by_second : packs_if (outcome_number s.outcome) s.cache.decoded b ≡ cached_reads f o b
-  by_second = ap (λ (x : Cached Cache). packs_if x.number x.cache.decoded b) second_is
+-- two cached reads, of which the first left the cache d
+module _ (f o b : List ℕ) (c d : Cache) (r s : Result Cache Refusal) (ec : c ≡ fresh_cache) (er : cached_of r c ≡ cached_read f c) (ed : d ≡ result_unwrap_or r c) (es : cached_of s d ≡ cached_read o d) where
+  by_second : packs_if (cached_of s d).number (cached_of s d).cache.decoded b ≡ cached_reads f o b
+  by_second =
+      ap (λ (x : Cached Cache). packs_if x.number x.cache.decoded b)
+      (es ∙ ap (cached_read o) (ed ∙ sym (cache_after r c) ∙ ap (λ (x : Cached Cache). x.cache) (er ∙ ap (cached_read f) ec)))
 
-  pub packs_done : outcome_number s.outcome ≡ 0 → packs_if 0 s.cache.decoded b ≡ cached_reads f o b
-  packs_done z = ap (λ (k : ℕ). packs_if k s.cache.decoded b) (sym z) ∙ by_second
+  pub packs_done : (e : Cache) → s ≡ Ok e → packs_if 0 e.decoded b ≡ cached_reads f o b
+  packs_done e z = ap (λ (x : Result Cache Refusal). packs_if (cached_of x d).number (cached_of x d).cache.decoded b) (sym z) ∙ by_second
 
-  pub packs_refused : (m p : ℕ) → (m ≡ 0 → ⊥) → p ≡ m → outcome_number s.outcome ≡ m → packing p b ≡ cached_reads f o b
+  refused_number : (m : ℕ) (l : Option Lighting) → (m ≡ 0 → ⊥) → packing m b ≡ packs_if m l b
   unfolding packs_if
-  packs_refused zero p h g z = absurd (h refl)
-  packs_refused (suc m) p h g z = ap (λ (k : ℕ). packing k b) g ∙ ap (λ (k : ℕ). packs_if k s.cache.decoded b) (sym z) ∙ by_second
+  refused_number zero l h = absurd (h refl)
+  refused_number (suc m) l h = refl
+
+  pub packs_refused : (k : Refusal) → s ≡ Err k → packing (number_of k) b ≡ cached_reads f o b
+  packs_refused k z =
+      refused_number (number_of k) d.decoded (refusal_not_zero k)
+      ∙ ap (λ (x : Result Cache Refusal). packs_if (cached_of x d).number (cached_of x d).cache.decoded b) (sym z)
+      ∙ by_second

@@ -4,6 +4,7 @@ ghost use Rattle.block_shading.specs.BlockShading.{four_at, quaternion_of, view_
 
 use binary32::float_of;
 
+#[tactic(auto, unfolding(block_shading::specs::BlockShading::four_at, block_shading::specs::BlockShading::float_at))]
 fn four_at(fragment: &[u32], i: usize) -> [f32; 4]
     requires { (length fragment.now ≡ 23) × (i ≤ 19) }
     ensures { result ≡ four_at fragment.now i }
@@ -16,6 +17,7 @@ fn four_at(fragment: &[u32], i: usize) -> [f32; 4]
     ]
 }
 
+#[tactic(auto, unfolding(block_shading::specs::BlockShading::quaternion_of))]
 pub(crate) fn quaternion_of(fragment: &[u32]) -> [f32; 4]
     requires { length fragment.now ≡ 23 }
     ensures { result ≡ quaternion_of fragment.now }
@@ -23,6 +25,7 @@ pub(crate) fn quaternion_of(fragment: &[u32]) -> [f32; 4]
     four_at(fragment, 0)
 }
 
+#[tactic(auto, unfolding(block_shading::specs::BlockShading::view_of, block_shading::specs::BlockShading::float_at))]
 pub(crate) fn view_of(fragment: &[u32]) -> [f32; 3]
     requires { length fragment.now ≡ 23 }
     ensures { result ≡ view_of fragment.now }
@@ -34,6 +37,7 @@ pub(crate) fn view_of(fragment: &[u32]) -> [f32; 3]
     ]
 }
 
+#[tactic(auto, unfolding(block_shading::specs::BlockShading::texels_of))]
 pub(crate) fn texels_of(fragment: &[u32]) -> [[f32; 4]; 4]
     requires { length fragment.now ≡ 23 }
     ensures { result ≡ texels_of fragment.now }

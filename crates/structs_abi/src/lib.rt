@@ -10,15 +10,15 @@ ghost use Rattle.block.specs.Block.{packing as packing_as};
 ghost use Rattle.block_shading.specs.BlockShading.{block_shading};
 ghost use Rattle.unit.specs.Unit.{fresh_cache, handed};
 ghost use Rattle.structs_abi.specs.Composed.{shades_reading, packs_if, shade_file, shade_reading, cached_reads};
-ghost use Rattle.structs_abi.specs.HandOvers.{copied as copied_as, copy_of, hand_overs};
+ghost use Rattle.structs_abi.specs.HandOvers.{next, copied as copied_as, copy_of, handed_over, hand_overs};
 
-use lighting::OptionalLighting;
-use refusals::Outcome;
+use lighting::Lighting;
+use refusals::{Refusal, Switch};
 use unit::HandedOver;
 
 // A fragment shaded by a reading, or 100.
 fn shade_reading(
-    reading: OptionalLighting,
+    reading: Option<Lighting>,
     tables: &[u32],
     fragment: &[u32],
     answer: &mut [u32],
@@ -26,20 +26,17 @@ fn shade_reading(
     requires { length fragment.now ≡ 23 }
     ensures { shaded result answer.new ≡ shades_reading reading tables.now fragment.now answer.old }
 {
-    if reading.on {
-        let quaternion = fragments::quaternion_of(fragment);
-        let view = fragments::view_of(fragment);
-        let texels = fragments::texels_of(fragment);
-        return refusals::outcome_number(shading::shade(
-            reading.lighting,
-            tables,
-            quaternion,
-            view,
-            texels,
-            answer,
-        ));
+    match reading {
+        Some(lighting) => {
+            let quaternion = fragments::quaternion_of(fragment);
+            let view = fragments::view_of(fragment);
+            let texels = fragments::texels_of(fragment);
+            refusals::outcome_number(shading::shade(
+                lighting, tables, quaternion, view, texels, answer,
+            ))
+        }
+        None => refusals::switch_number(Ok(Switch::Off)),
     }
-    100
 }
 
 // `read` of a file, then `shade`. Returns 9 for a fragment of other than 23 words, then each call's own number, 100 where the lighting is off.
@@ -53,13 +50,11 @@ pub extern "C" fn structs_shade_file(
     ensures { shaded result answer.new ≡ shade_file file.now tables.now fragment.now answer.old }
 {
     if fragment.len() != 23 {
-        return 9;
+        return u32::from(Refusal::WrongFragment);
     }
-    let read = decoding::read(file);
-    let outcome = read.outcome;
-    match outcome {
-        Outcome::Done => shade_reading(read.decoded, tables, fragment, answer),
-        Outcome::Refused(refusal) => refusals::number(refusal),
+    match decoding::read(file) {
+        Ok(decoded) => shade_reading(decoded, tables, fragment, answer),
+        Err(refusal) => u32::from(refusal),
     }
 }
 
@@ -74,13 +69,11 @@ pub extern "C" fn structs_shade_reading(
     ensures { shaded result answer.new ≡ shade_reading block.now tables.now fragment.now answer.old }
 {
     if fragment.len() != 23 {
-        return 9;
+        return u32::from(Refusal::WrongFragment);
     }
-    let read = block_reading::read_block(block);
-    let outcome = read.outcome;
-    match outcome {
-        Outcome::Done => shade_reading(read.reading, tables, fragment, answer),
-        Outcome::Refused(refusal) => refusals::number(refusal),
+    match block_reading::read_block(block) {
+        Ok(reading) => shade_reading(reading, tables, fragment, answer),
+        Err(refusal) => u32::from(refusal),
     }
 }
 
@@ -94,18 +87,17 @@ pub extern "C" fn structs_shade_block(
 ) -> u32
     ensures { shaded result answer.new ≡ block_shading block.now tables.now fragment.now answer.old }
 {
-    let answered = block_shading::shade_block(block, tables, fragment, answer);
-    block_shading::shaded_number(answered)
+    refusals::switch_number(block_shading::shade_block(block, tables, fragment, answer))
 }
 
 // The block of a reading, or 100.
-fn pack_reading(reading: OptionalLighting, block: &mut [u32]) -> u32
+fn pack_reading(reading: Option<Lighting>, block: &mut [u32]) -> u32
     ensures { packing_as result block.new ≡ packs_if 0 reading block.old }
 {
-    if reading.on {
-        return refusals::outcome_number(packing::pack(reading.lighting, block));
+    match reading {
+        Some(lighting) => refusals::outcome_number(packing::pack(lighting, block)),
+        None => refusals::switch_number(Ok(Switch::Off)),
     }
-    100
 }
 
 // `cached_read` of one file and then of the other, from an empty cache, and `pack` of the second's lighting, or 100.
@@ -113,12 +105,45 @@ fn pack_reading(reading: OptionalLighting, block: &mut [u32]) -> u32
 pub extern "C" fn structs_cached_reads(file: &[u32], other: &[u32], block: &mut [u32]) -> u32
     ensures { packing_as result block.new ≡ cached_reads file.now other.now block.old }
 {
-    let first = unit::reading::cached_read(file, unit::fresh_cache());
-    let second = unit::reading::cached_read(other, first.cache);
-    let outcome = second.outcome;
-    match outcome {
-        Outcome::Done => pack_reading(second.cache.decoded, block),
-        Outcome::Refused(refusal) => refusals::number(refusal),
+    let fresh = unit::fresh_cache();
+    let first = unit::reading::cached_read(file, fresh).unwrap_or(fresh);
+    match unit::reading::cached_read(other, first) {
+        Ok(cache) => pack_reading(cache.decoded, block),
+        Err(refusal) => u32::from(refusal),
+    }
+}
+
+// What the last hand-over answered, and the cache and the copy's generation after it: refused, those before it.
+#[derive(Clone, Copy)]
+struct LastHandOver {
+    outcome: Result<(), Refusal>,
+    left: HandedOver,
+}
+
+// A hand-over from what the last one left.
+fn next(
+    file: &[u32],
+    tables: &[u32],
+    generation: u64,
+    last: LastHandOver,
+    block: &mut [u32],
+    copied: &mut [u32],
+) -> LastHandOver
+    ensures { handed_over result block.new copied.new ≡ next file.now tables.now generation (handed_over last block.old copied.old) }
+{
+    let HandedOver {
+        cache,
+        generation: age,
+    } = last.left;
+    match unit::handing_over::hand_over(file, tables, generation, cache, block, copied, age) {
+        Ok(left) => LastHandOver {
+            outcome: Ok(()),
+            left,
+        },
+        Err(refusal) => LastHandOver {
+            outcome: Err(refusal),
+            left: last.left,
+        },
     }
 }
 
@@ -138,34 +163,17 @@ pub extern "C" fn structs_hand_overs(
 ) -> u32
     ensures { copied_as result block.new copied.new age.new ≡ copy_of (hand_overs file.now other.now tables.now first second pairs (handed 0 fresh_cache block.old copied.old age.old)) }
 {
-    let mut state = HandedOver {
-        outcome: Outcome::Done,
-        cache: unit::fresh_cache(),
-        generation: *age,
+    let mut state = LastHandOver {
+        outcome: Ok(()),
+        left: HandedOver {
+            cache: unit::fresh_cache(),
+            generation: *age,
+        },
     };
-    let mut left = pairs;
-    while 0 < left {
-        state = unit::handing_over::hand_over(
-            file,
-            tables,
-            first,
-            state.cache,
-            block,
-            copied,
-            state.generation,
-        );
-        state = unit::handing_over::hand_over(
-            other,
-            tables,
-            second,
-            state.cache,
-            block,
-            copied,
-            state.generation,
-        );
-        left -= 1;
+    for _ in 0..pairs {
+        state = next(file, tables, first, state, block, copied);
+        state = next(other, tables, second, state, block, copied);
     }
-    *age = state.generation;
-    let outcome = state.outcome;
-    refusals::outcome_number(outcome)
+    *age = state.left.generation;
+    refusals::outcome_number(state.outcome)
 }

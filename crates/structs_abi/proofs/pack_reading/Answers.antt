@@ -1,12 +1,11 @@
--- `structs_abi::pack_reading` meets its contract: each return is the case of the definition that the flag chose.
-use mathlib.Core.Path.{refl}
+-- `structs_abi::pack_reading` meets its contract: each return is the case of the definition.
 use Rattle.structs_abi.specs.Composed.{packs_if}
 use Rattle.structs_abi.proofs.pack_reading.Goals as goal
 
-pub returns-then-reading : goal.returns-then-reading
+pub returns-in-Some : goal.returns-in-Some
 unfolding packs_if
-returns-then-reading c = rw (c.outcome_number.ensures, c.if-reading.true) c.pack.ensures
+returns-in-Some c = rw (c.outcome_number.ensures, c.in-Some.is) c.pack.ensures
 
-pub returns : goal.returns
+pub returns-in-None : goal.returns-in-None
 unfolding packs_if
-returns c = rw c.if-reading.false refl
+returns-in-None c = rw (c.switch_number.ensures, c.in-None.is)

@@ -1,14 +1,13 @@
--- `structs_abi::shade_reading` meets its contract: each return is the case of the definition that the flag chose.
-use mathlib.Core.Path.{refl}
+-- `structs_abi::shade_reading` meets its contract: each return is the case of the definition.
 use Rattle.structs_abi.specs.Composed.{shades_reading}
 use Rattle.structs_abi.proofs.shade_reading.Goals as goal
 
-pub returns-then-reading : goal.returns-then-reading
+pub returns-in-Some : goal.returns-in-Some
 unfolding shades_reading
-returns-then-reading c =
-    rw (c.outcome_number.ensures, c.if-reading.true)
+returns-in-Some c =
+    rw (c.outcome_number.ensures, c.in-Some.is)
     (rw (c.texels_of-texels.ensures, c.view_of-view.ensures, c.quaternion_of-quaternion.ensures) at c.shade.ensures)
 
-pub returns : goal.returns
+pub returns-in-None : goal.returns-in-None
 unfolding shades_reading
-returns c = rw c.if-reading.false refl
+returns-in-None c = rw (c.switch_number.ensures, c.in-None.is)
