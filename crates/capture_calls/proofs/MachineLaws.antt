@@ -1,6 +1,6 @@
 -- What the copy prints is what the plain machine prints: a kind 2 body's calls end in an accepted hand-over, after which demand 3's theorem gives
 -- every fragment the machine's shading. And no more than 32 bytes are printed for each 23 words. Assumes nothing.
-use Rattle.std.specs.Prelude.{ℕ, ◌+◌, ◌-◌, ◌*◌, ◌/◌, ◌≤◌, ◌<◌, ◌≡◌, Bool}
+use Rattle.std.specs.Prelude.{ℕ, ◌+◌, ◌-◌, ◌*◌, ◌/◌, ◌≤◌, ◌<◌, ◌≡◌, Bool, Option, None, Some}
 use Rattle.std.proofs.Common.{arith, le_refl, ap₂, length-append, eqb-true}
 use Rattle.std.proofs.Math.Path.{refl, sym}
 use mathlib.Core.List.{List, [], ◌∷◌, ◌++◌}
@@ -8,8 +8,8 @@ use Rattle.std.proofs.Math.Bool.{true, false, cond}
 use Rattle.std.proofs.Math.ListN.{length}
 use Rattle.std.proofs.Math.Dec.{eqb}
 use Rattle.decoding.specs.Read.{read}
-use Rattle.shading.specs.Shade.{shaded}
-use Rattle.block_shading.specs.BlockShading.{eight_of}
+use Rattle.lighting.specs.declared.Lighting.{Lighting}
+use Rattle.block_shading.specs.BlockShading.{shaded_by}
 use Rattle.unit.specs.Unit.{fresh_cache}
 use Rattle.lists.specs.States.{fresh}
 use Rattle.lists.specs.Calls.{Call, run}
@@ -93,12 +93,12 @@ copy_prints_as_machine w n s =
 -- ---- no more than 32 bytes for each 23 words
 
 machine_eight : (m : Machine) (q : List ℕ) → length (machine_shades m q).answer ≡ 8
-unfolding shade_from
-machine_eight m q = go (read m.registers).on
+unfolding shade_from shaded_by
+machine_eight m q = go (read m.registers)
   where
-    go : (b : Bool) → length (cond b (shaded 0 (eight_of (read m.registers).lighting m.entries q)) (shaded 100 no_answer)).answer ≡ 8
-    go true = eight_long (read m.registers).lighting m.entries q
-    go false = refl
+    go : (d : Option Lighting) → length (shaded_by d m.entries q no_answer).answer ≡ 8
+    go None = refl
+    go (Some l) = eight_long l m.entries q
 
 pub machine_fits : (w : List ℕ) (bs : List Body) (m : Machine) (at end : ℕ) → gapless bs at end ≡ true → length (machine_prints w bs m) ≤ 32 * ((end - at) / 23)
 unfolding machine_prints

@@ -8,7 +8,7 @@ ghost use Rattle.capture_calls.specs.Capture.{short_output, size_of, number_by, 
 
 use refusals::Refusal;
 
-// What the call answers.
+// What the call answers. No Result: a refused capture prints its line too, so that its bytes would be told in both cases.
 #[derive(Clone, Copy)]
 pub enum Answer {
     // the capture was run, and printed so many bytes
@@ -39,8 +39,8 @@ pub fn answer_number(answer: Answer) -> u32
 {
     match answer {
         Answer::Printed(_) => 0,
-        Answer::Refused(refusal, _) => refusals::number(refusal),
-        Answer::Unprinted(refusal) => refusals::number(refusal),
+        Answer::Refused(refusal, _) => u32::from(refusal),
+        Answer::Unprinted(refusal) => u32::from(refusal),
         Answer::ShortOutput => 101,
     }
 }
