@@ -4,6 +4,7 @@ ghost use Rattle.vectors.specs.Vectors.{cross_of, rotate_of};
 
 use crate::{plus, times};
 
+#[tactic(auto, unfolding(crate::specs::Vectors::cross_of))]
 pub fn cross(a: [f32; 3], b: [f32; 3]) -> [f32; 3]
     ensures { result ≡ cross_of a b }
 {
