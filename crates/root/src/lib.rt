@@ -42,12 +42,11 @@ fn nearest(w: u64, e: u64) -> u64
     ensures { Near w result }
 {
     let p = e * e;
-    if p < w + e {
-        if w <= p + e {
-            return e;
-        }
+    if p < w + e && w <= p + e {
+        e
+    } else {
+        stepped(w, e)
     }
-    stepped(w, e)
 }
 
 // m * 2 ^ 23 where y is even, and m * 2 ^ 24 where it is odd, for the last 24 digits of n: the last digit of y, and those of m.

@@ -20,20 +20,11 @@ overflow_mul-s c = omega (arith, square c)
 pub overflow_sub-s : goal.overflow_sub-s
 overflow_sub-s c = omega (arith, square c)
 
-pub overflow_mul-result : goal.overflow_mul-result
-overflow_mul-result c = omega arith
-
-pub overflow_cast-result : goal.overflow_cast-result
-overflow_cast-result c = omega arith
-
 pub overflow_mul-result-2 : goal.overflow_mul-result-2
 overflow_mul-result-2 c = omega (arith, line c)
 
 pub overflow_add-result : goal.overflow_add-result
 overflow_add-result c = omega (arith, line c)
-
-pub overflow_cast-result-2 : goal.overflow_cast-result-2
-overflow_cast-result-2 c = omega arith
 
 pub overflow_mul-result-3 : goal.overflow_mul-result-3
 overflow_mul-result-3 c = omega (arith, curve c)

@@ -6,9 +6,3 @@ use Rattle.root.proofs.nearest.Goals as goal
 
 pub overflow_mul-p : goal.overflow_mul-p
 overflow_mul-p c = omega (arith, (sq_mono {a = c.args.e} {b = 33554432} (omega arith)))
-
-pub overflow_add-w : goal.overflow_add-w
-overflow_add-w c = omega arith
-
-pub overflow_add-p : goal.overflow_add-p
-overflow_add-p c = omega arith

@@ -13,20 +13,11 @@ overflow_sub-s c = omega (arith, (at c).some)
 pub overflow_sub-result : goal.overflow_sub-result
 overflow_sub-result c = omega (arith, (at c).few)
 
-pub overflow_mul-result : goal.overflow_mul-result
-overflow_mul-result c = omega arith
-
 pub overflow_shl-result : goal.overflow_shl-result
 overflow_shl-result c = omega (arith, (at c).few)
 
 pub overflow_add-result : goal.overflow_add-result
 overflow_add-result c = omega (arith, (at c).is, (at c).hi)
-
-pub overflow_mul-result-else-b-lt8388608 : goal.overflow_mul-result-else-b-lt8388608
-overflow_mul-result-else-b-lt8388608 c = omega arith
-
-pub overflow_add-result-else-b-lt8388608 : goal.overflow_add-result-else-b-lt8388608
-overflow_add-result-else-b-lt8388608 c = omega arith
 
 pub returns-then-b-lt8388608 : goal.returns-then-b-lt8388608
 returns-then-b-lt8388608 c = subnormal_placed c.args.b (omega arith) c.if-b-lt8388608.true

@@ -9,9 +9,6 @@ use Rattle.root.proofs.rooted.Goals as goal
 small : (c : goal.After-nearest-r) → c.nearest-r.result < 16777216
 small c = near_hi c.wide.result c.nearest-r.result c.wide.ensures.hi c.nearest-r.ensures
 
-pub overflow_mul-result : goal.overflow_mul-result
-overflow_mul-result c = omega arith
-
 pub overflow_cast-result : goal.overflow_cast-result
 overflow_cast-result c = omega (arith, small c)
 

@@ -8,17 +8,11 @@ use Rattle.root.proofs.stepped.Goals as goal
 square : (r : ℕ) → r ≤ 33554432 → r * r ≤ 1125899906842624
 square r h = sq_mono {a = r} {b = 33554432} h
 
-pub loop-r-init : goal.loop-r-init
-loop-r-init c = omega arith
-
 pub overflow_mul-r : goal.overflow_mul-r
 overflow_mul-r c = omega (arith, square c.loop-r.r c.loop-r.invariant)
 
 pub overflow_add-r : goal.overflow_add-r
 overflow_add-r c = omega (arith, square c.loop-r.r c.loop-r.invariant)
-
-pub overflow_add-r-in-loop-r : goal.overflow_add-r-in-loop-r
-overflow_add-r-in-loop-r c = omega arith
 
 pub loop-r-smaller : goal.loop-r-smaller
 loop-r-smaller c = omega (arith, small_root c.args.w c.loop-r.r (omega arith) (omega arith))
@@ -28,9 +22,6 @@ loop-r-preserved c = omega (arith, small_root c.args.w c.loop-r.r (omega arith) 
 
 pub loop-r-2-init : goal.loop-r-2-init
 loop-r-2-init c = (c.loop-r-test.false, c.loop-r.invariant)
-
-pub overflow_add-w : goal.overflow_add-w
-overflow_add-w c = omega arith
 
 pub overflow_mul-r-in-loop-r-2 : goal.overflow_mul-r-in-loop-r-2
 overflow_mul-r-in-loop-r-2 c = omega (arith, square c.loop-r-2.r c.loop-r-2.invariant.1)

@@ -8,15 +8,6 @@ use Rattle.root.proofs.Place.{wide_even, wide_odd}
 use Rattle.root.proofs.wide.Goals as goal
 use Rattle.root.proofs.wide.Goals.{else-z-lt8388608, then-z-lt8388608}
 
-pub overflow_add-d : goal.overflow_add-d
-overflow_add-d c = omega arith
-
-pub overflow_mul-d : goal.overflow_mul-d
-overflow_mul-d c = omega arith
-
-pub overflow_mul-result : goal.overflow_mul-result
-overflow_mul-result c = omega arith
-
 pub returns : goal.returns
 returns c =
     let z = c.args.z in
