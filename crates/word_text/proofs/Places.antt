@@ -2,15 +2,14 @@
 use Prim.Native.Nat.{ℕ, zero, suc, ◌+◌, ◌*◌, ◌-◌, ◌^◌, ◌<◌, ◌≤◌}
 use native.Mathlib.Nat.{pow-suc, pow-le-pow_right}
 use native.Mathlib.Omega.{arith}
-use mathlib.Core.Path.{◌≡◌, refl, sym, ◌∙◌}
+use mathlib.Core.Path.{◌≡◌, refl}
 use mathlib.Core.List.{List, []}
-use mathlib.Core.Bool.{Bool, true, false, cond}
+use mathlib.Core.Bool.{Bool, true, false}
 use lib.ListN.{length, drop, get_or, set, length-set, drop_of_length-le}
-use lib.Dec.{eqb}
-use borrow.Author.Tests.{eq-eqb, ne_eqb}
+use Rattle.std.specs.Prelude.{Option, Some, None}
 use Rattle.sources.specs.PieceLaws.{drop_one}
 use Rattle.word_text.specs.declared.Next.TheVariants.{Word, End, Malformed}
-use Rattle.word_text.specs.Text.{digit_of, digits_of, is_gap, in_remark, next_of}
+use Rattle.word_text.specs.Text.{digit_of, with_digit, digits_of, is_gap, in_remark, next_of}
 use Rattle.word_text.specs.Load.{loaded, loaded_as}
 
 -- no digit left to read
@@ -24,31 +23,26 @@ unfolding digits_of
 digits_past zero n i t p h = absurd (omega arith)
 digits_past (suc k) n i t p h = rw (drop_of_length-le t h) refl
 
-digits_at : (k n i : ℕ) (t : List ℕ) → i < length t → digits_of (suc k) n (drop i t) i ≡ cond (eqb (digit_of (get_or t i 0)) 16) Malformed (digits_of k (n * 16 + digit_of (get_or t i 0)) (drop (i + 1) t) (i + 1))
+digits_at : (k n i : ℕ) (t : List ℕ) (o : Option ℕ) → i < length t → o ≡ digit_of (get_or t i 0) → digits_of (suc k) n (drop i t) i ≡ with_digit o (λ d. digits_of k (n * 16 + d) (drop (i + 1) t) (i + 1)) Malformed
 unfolding digits_of
-digits_at k n i t h = rw (drop_one t i h) refl
+digits_at k n i t o h e = rw (drop_one t i h, e) refl
 
 -- a byte that is no digit
-pub digits_none : (k n i : ℕ) (t : List ℕ) (d : ℕ) → 0 < k → i < length t → d ≡ digit_of (get_or t i 0) → d ≡ 16 → digits_of k n (drop i t) i ≡ Malformed
-digits_none zero n i t d p h e s = absurd (omega arith)
-digits_none (suc k) n i t d p h e s =
-    digits_at k n i t h ∙ rw (eq-eqb (digit_of (get_or t i 0)) 16 (sym e ∙ s)) refl
+pub digits_none : (k n i : ℕ) (t : List ℕ) → 0 < k → i < length t → None ≡ digit_of (get_or t i 0) → digits_of k n (drop i t) i ≡ Malformed
+digits_none zero n i t p h e = absurd (omega arith)
+digits_none (suc k) n i t p h e = digits_at k n i t None h e
 
 -- a digit
-pub digits_more : (k n i : ℕ) (t : List ℕ) (d : ℕ) → 0 < k → i < length t → d ≡ digit_of (get_or t i 0) → (d ≡ 16 → ⊥) → digits_of k n (drop i t) i ≡ digits_of (k - 1) (n * 16 + d) (drop (i + 1) t) (i + 1)
-digits_more zero n i t d p h e s = absurd (omega arith)
-digits_more (suc k) n i t d p h e s =
-    let less : suc k - 1 ≡ k = omega arith in
-    digits_at k n i t h ∙ rw (ne_eqb (digit_of (get_or t i 0)) 16 (λ x. s (e ∙ x)), ← e, less) refl
+pub digits_more : (k j n i : ℕ) (t : List ℕ) (d : ℕ) → k ≡ suc j → i < length t → Some d ≡ digit_of (get_or t i 0) → digits_of k n (drop i t) i ≡ digits_of j (n * 16 + d) (drop (i + 1) t) (i + 1)
+digits_more k j n i t d p h e = rw p (digits_at j n i t (Some d) h e)
 
--- digits so far leave room for one more
-pub fits : (n k : ℕ) → 0 < k → n < 16 ^ (8 - k) → n < 0x10000000
+-- k digits so far leave room for one more
+pub fits : (n k : ℕ) → k < 8 → n < 16 ^ k → n < 0x10000000
 fits n k p h =
-    let most : 16 ^ (8 - k) ≤ 0x10000000 = pow-le-pow_right {n = 16} (omega arith) {i = 8 - k} {j = 7} (omega arith) in omega arith
+    let most : 16 ^ k ≤ 0x10000000 = pow-le-pow_right {n = 16} (omega arith) {i = k} {j = 7} (omega arith) in omega arith
 
-pub room : (n d k : ℕ) → 0 < k → k ≤ 8 → n < 16 ^ (8 - k) → d < 16 → n * 16 + d < 16 ^ (8 - (k - 1))
-room n d k p q h s =
-    let next : 8 - (k - 1) ≡ suc (8 - k) = omega arith in rw (next, pow-suc 16 (8 - k)) (omega arith)
+pub room : (n d k j : ℕ) → j ≡ suc k → n < 16 ^ k → d < 16 → n * 16 + d < 16 ^ j
+room n d k j e h s = rw (e, pow-suc 16 k) (omega arith)
 
 -- the text's end
 pub next_end : (remark : Bool) (i : ℕ) (t : List ℕ) → length t ≤ i → next_of remark (drop i t) i ≡ End

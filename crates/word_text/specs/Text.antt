@@ -1,21 +1,24 @@
 -- For tests alone: words written as text, as the data of the replay programs are, eight hexadecimal digits each, spaces and line ends between them, and remarks from `#` to the line's end.
 -- Definitions only.
-use Rattle.std.specs.Prelude.{ℕ, zero, suc, ◌+◌, ◌*◌, ◌-◌, List, [], ◌∷◌, Bool, true, false, cond, eqb, ltb, leb}
+use Rattle.std.specs.Prelude.{ℕ, zero, suc, ◌+◌, ◌*◌, ◌-◌, List, [], ◌∷◌, Bool, true, false, cond, eqb, leb, ◌&&◌, Option, Some, None}
 use Rattle.word_text.specs.declared.Next.{Next}
 use Rattle.word_text.specs.declared.Next.TheVariants.{Word, End, Malformed}
 
--- the digit that a byte writes: from `0` to `9` and from `A` to `F`; else 16
-unfoldable pub digit_of : ℕ → ℕ
+-- the digit that a byte writes: from `0` to `9` and from `A` to `F`; any other writes none
+unfoldable pub digit_of : ℕ → Option ℕ
 digit_of b =
-    cond (ltb b 48) 16
-    (cond (leb b 57) (b - 48) (cond (ltb b 65) 16 (cond (leb b 70) (b - 65 + 10) 16)))
+    cond (leb 48 b && leb b 57) (Some (b - 48)) (cond (leb 65 b && leb b 70) (Some (b - 65 + 10)) None)
+
+-- a digit's value to the function, or where there is none the other thing
+abbrev pub with_digit : Option ℕ → (ℕ → Next) → Next → Next
+with_digit (Some d) f m = f d
+with_digit None f m = m
 
 -- k digits of the text t, which starts at the place `at`, after digits that gave n
 unfoldable pub digits_of : ℕ → ℕ → List ℕ → ℕ → Next
 digits_of zero n t at = Word n at
 digits_of (suc k) n [] at = Malformed
-digits_of (suc k) n (b ∷ t) at =
-    cond (eqb (digit_of b) 16) Malformed (digits_of k (n * 16 + digit_of b) t (at + 1))
+digits_of (suc k) n (b ∷ t) at = with_digit (digit_of b) (λ d. digits_of k (n * 16 + d) t (at + 1)) Malformed
 
 -- whether a byte, in a remark or not, stands between words: `#`, a space, a line's end
 unfoldable pub is_gap : Bool → ℕ → Bool

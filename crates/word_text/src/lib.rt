@@ -1,7 +1,7 @@
 // Words written as text, eight hexadecimal digits each, which the replayed lists of data/ are made of: a library for tests alone.
 #![tactic(auto)]
 
-ghost use Rattle.std.specs.Prelude.{◌≡◌, ◌≤◌, length, take, drop, false};
+ghost use Rattle.std.specs.Prelude.{◌≡◌, ◌≤◌, ◌<◌, length, take, drop, false, IfSome};
 ghost use Rattle.std.specs.Counts.{IsPrefixLen};
 ghost use Rattle.word_text.specs.Text.{digit_of, digits_of, is_gap, in_remark, next_of};
 ghost use Rattle.word_text.specs.Load.{loaded, loaded_as, OfSomeText};
@@ -19,46 +19,35 @@ enum Next {
     Malformed,
 }
 
-// The digit that a byte writes, or 16.
+// The digit that a byte writes.
 #[tactic(auto, unfolding(crate::specs::Text::digit_of))]
-fn digit(b: u8) -> u32
-    ensures { (result ≡ digit_of b) × (result ≤ 16) }
+fn digit(b: u8) -> Option<u32>
+    ensures value { result ≡ digit_of b }
+    ensures bound { IfSome result (λ d. d < 16) }
 {
-    if b < b'0' {
-        return 16;
+    match b {
+        b'0'..=b'9' => Some((b - b'0') as u32),
+        b'A'..=b'F' => Some((b - b'A') as u32 + 10),
+        _ => None,
     }
-    if b <= b'9' {
-        return (b - b'0') as u32;
-    }
-    if b < b'A' {
-        return 16;
-    }
-    if b <= b'F' {
-        return (b - b'A') as u32 + 10;
-    }
-    16
 }
 
 // The word whose eight digits start at `at`.
 fn digits(text: &[u8], at: usize) -> Next
+    requires { at ≤ length text.now }
     ensures { result ≡ digits_of 8 0 (drop at text.now) at }
 {
     let mut n: u32 = 0;
-    let mut i = at;
-    let mut left: u32 = 8;
-    while left > 0 {
+    for i in at..at + 8 {
         if i >= text.len() {
             return Next::Malformed;
         }
-        let d = digit(text[i]);
-        if d == 16 {
+        let Some(d) = digit(text[i]) else {
             return Next::Malformed;
-        }
+        };
         n = n * 16 + d;
-        i += 1;
-        left -= 1;
     }
-    Next::Word(n, i)
+    Next::Word(n, at + 8)
 }
 
 // Whether a byte stands between words: in a remark, or as its start, a space or a line's end.
@@ -66,19 +55,7 @@ fn digits(text: &[u8], at: usize) -> Next
 fn is_gap(remark: bool, b: u8) -> bool
     ensures { result ≡ is_gap remark b }
 {
-    if remark {
-        return true;
-    }
-    if b == b'#' {
-        return true;
-    }
-    if b == b' ' {
-        return true;
-    }
-    if b == b'\n' {
-        return true;
-    }
-    false
+    remark || matches!(b, b'#' | b' ' | b'\n')
 }
 
 // Whether the byte after it is in a remark.
@@ -86,13 +63,7 @@ fn is_gap(remark: bool, b: u8) -> bool
 fn in_remark(remark: bool, b: u8) -> bool
     ensures { result ≡ in_remark remark b }
 {
-    if b == b'\n' {
-        return false;
-    }
-    if remark {
-        return true;
-    }
-    b == b'#'
+    b != b'\n' && (remark || b == b'#')
 }
 
 // The first word from `at` on, which is not in a remark.
@@ -100,14 +71,12 @@ fn next_word(text: &[u8], at: usize) -> Next
     ensures { result ≡ next_of false (drop at text.now) at }
 {
     let mut remark = false;
-    let mut i = at;
-    while i < text.len() {
+    for i in at..text.len() {
         let b = text[i];
         if !is_gap(remark, b) {
             return digits(text, i);
         }
         remark = in_remark(remark, b);
-        i += 1;
     }
     Next::End
 }
@@ -117,24 +86,17 @@ fn load(text: &[u8], out: &mut [u32]) -> usize
     ensures out_after { loaded_as result out.new ≡ loaded (length out.old) text.now 0 0 out.old }
     ensures upper_bound { (result ≤ length out.new) × (result ≡ length (take result out.new)) }
 {
-    let mut n = 0;
     let mut at = 0;
-    while n < out.len() {
+    for n in 0..out.len() {
         match next_word(text, at) {
             Next::Word(word, next) => {
                 out[n] = word;
-                n += 1;
                 at = next;
             }
-            Next::End => {
-                return n;
-            }
-            Next::Malformed => {
-                return n;
-            }
+            Next::End | Next::Malformed => return n,
         }
     }
-    n
+    out.len()
 }
 
 // Reads until the buffer is full, the file ends or a read fails; how many bytes were put at its front.
