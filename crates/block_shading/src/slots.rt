@@ -55,7 +55,8 @@ fn shadow_of(l: Lighting, words: &[u32], bytes: &[u8], at: usize) -> [f32; 4]
     surface::shadow::shadow_texel(l.shadow, texel)
 }
 
-// The sums of the lit slots. `plain` says that no word of the block is a NaN's pattern.
+// The sums of the lit slots. `plain` says that no word of the block is a NaN's pattern. A loop beside that of `shading::sums`, which has the lights in a list: one
+// over a closure that gives a slot's light would say in its contract what each call gives, and be longer than both.
 fn sum_slots(
     block: &[u32],
     block_bytes: &[u8],

@@ -84,7 +84,7 @@ pub fn step(
     let distance = distance_of(tables, bytes, light, ray.norm);
     if values::reads_tables(lookups, light) {
         let directions = surface::light::directions_of(ray.vector, frame, lookups.needs_half);
-        let applied = last && lookups.fresnel.is_some();
+        let applied = values::applies_fresnel(lookups, last);
         let values = values_of(
             tables, bytes, lookups, frame, directions, distance, light, last,
         );

@@ -11,8 +11,7 @@ use lighting::{LightNumber, Lookup};
 fn input_of(lookup: Lookup, inputs: [f32; 8]) -> f32
     ensures { result ≡ input_of lookup inputs }
 {
-    let input = lookup.input as usize;
-    if input < 8 { inputs[input] } else { 0.0 }
+    inputs.get(lookup.input as usize).copied().unwrap_or(0.0)
 }
 
 #[tactic(auto, unfolding(crate::specs::Steps::place_of))]

@@ -48,7 +48,8 @@ pub struct EntryValues {
     pub fresnel: f32,
 }
 
-// What the lookups make of that: each its scale's multiple, 1 where it is missing, but green and blue fall back to red.
+// What the lookups make of that: each its scale's multiple, 1 where it is missing, but green and blue fall back to red. A type of its own, so that what an entry
+// gives is not taken for what its lookup makes of it.
 #[derive(Clone, Copy)]
 pub struct Values {
     pub distance: f32,

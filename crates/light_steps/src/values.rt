@@ -1,5 +1,5 @@
 // The values that a light takes from its lookups: whether it reads any table, and what is made of the entries that were read.
-ghost use Rattle.std.specs.Prelude.{◌≡◌};
+ghost use Rattle.std.specs.Prelude.{◌≡◌, ◌&&◌, is_some};
 ghost use Rattle.light_steps.specs.Steps.{reads_tables, scaled_if, spot_scaled, fresnel_scaled, values_from, unread as unread_of};
 
 use crate::types::{EntryValues, LightingLookups, Values};
@@ -17,6 +17,13 @@ pub(crate) fn reads_tables(lookups: LightingLookups, light: Light) -> bool
         || lookups.reflect_green.is_some()
         || lookups.reflect_blue.is_some()
         || light.spotlight
+}
+
+// Whether fresnel is applied: in the last slot lit, if there is its lookup.
+pub(crate) fn applies_fresnel(lookups: LightingLookups, last: bool) -> bool
+    ensures { result ≡ (last && is_some lookups.fresnel) }
+{
+    last && lookups.fresnel.is_some()
 }
 
 #[tactic(auto, unfolding(crate::specs::Steps::scaled_if))]

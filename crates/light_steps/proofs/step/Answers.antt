@@ -1,8 +1,7 @@
 -- `light_steps::step` meets its contract: each operation and call is the definition's, in its order. A light that reads no table has 1 for each value, reads the
 -- half vector only with a geometric flag, and has no fresnel lookup that could be applied.
 use mathlib.Core.Path.{◌≡◌, refl, sym, ap, ◌∙◌}
-use mathlib.Core.Bool.{false, ◌&&◌}
-use Rattle.std.specs.Prelude.{is_some}
+use mathlib.Core.Bool.{false}
 use Rattle.sources.specs.Steps.{given}
 use Rattle.surface.specs.declared.Directions.{Directions}
 use Rattle.light_steps.specs.Steps.{unread, reads_tables, with_values, step_of}
@@ -10,7 +9,6 @@ use Rattle.surface.specs.Steps.{directions_of}
 use Rattle.light_steps.specs.ReadingsLaws.{read_none, none_applied}
 use Rattle.light_steps.proofs.Rays.{directions_is, distance_is, unread_is}
 use Rattle.light_steps.proofs.step.Goals as goal
-use Rattle.light_steps.proofs.step.Goals.{then-last, else-last}
 
 pub values_of-values-requires : goal.values_of-values-requires
 values_of-values-requires c = (
@@ -19,13 +17,11 @@ values_of-values-requires c = (
   distance_is (given c.args.tables.now c.args.bytes.now) c.args.light c.args.frame.view _ _ c.ray_to-ray.ensures c.distance_of-distance.ensures,
 )
 
-pub returns-after-last : goal.returns-after-last
+pub returns-then-reads_tables : goal.returns-then-reads_tables
 unfolding step_of
-returns-after-last c =
-    let applied : c.if-last.applied ≡ (c.args.last && is_some c.args.lookups.fresnel) =
-    elim c.if-last.branch [ then-last w ↦ simp (w.applied-is, w.is_some-applied.ensures, w.if-last.true) | else-last w ↦ simp (w.applied-is, w.if-last.false) ] in
+returns-then-reads_tables c =
     simp
-    (c.with_values.ensures, c.values_of-values.ensures, applied, directions_is c.args.light c.args.frame c.args.lookups.needs_half _ _ c.ray_to-ray.ensures c.directions_of-directions.ensures)
+    (c.with_values.ensures, c.values_of-values.ensures, c.applies_fresnel-applied.ensures, directions_is c.args.light c.args.frame c.args.lookups.needs_half _ _ c.ray_to-ray.ensures c.directions_of-directions.ensures)
 
 pub returns-else-reads_tables : goal.returns-else-reads_tables
 unfolding step_of
