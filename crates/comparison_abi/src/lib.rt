@@ -64,32 +64,28 @@ pub extern "C" fn compare_clamp(x: f32, low: f32, high: f32) -> f32
 pub extern "C" fn compare_unsigned_entry(x: f32) -> u8
     ensures { result ≡ (unsigned_place_of x).entry }
 {
-    let place = binary32::places::unsigned_place(x);
-    place.entry
+    binary32::places::unsigned_place(x).entry
 }
 
 #[unsafe(no_mangle)]
 pub extern "C" fn compare_unsigned_delta(x: f32) -> f32
     ensures { result ≡ (unsigned_place_of x).delta }
 {
-    let place = binary32::places::unsigned_place(x);
-    place.delta
+    binary32::places::unsigned_place(x).delta
 }
 
 #[unsafe(no_mangle)]
 pub extern "C" fn compare_signed_entry(x: f32) -> u8
     ensures { result ≡ (signed_place_of x).entry }
 {
-    let place = binary32::places::signed_place(x);
-    place.entry
+    binary32::places::signed_place(x).entry
 }
 
 #[unsafe(no_mangle)]
 pub extern "C" fn compare_signed_delta(x: f32) -> f32
     ensures { result ≡ (signed_place_of x).delta }
 {
-    let place = binary32::places::signed_place(x);
-    place.delta
+    binary32::places::signed_place(x).delta
 }
 
 #[unsafe(no_mangle)]
@@ -118,10 +114,8 @@ pub extern "C" fn compare_float20(bits: u32) -> f32
 pub extern "C" fn compare_count(mantissa: u32, exponent: u32, at: u32) -> u32
     ensures { result ≡ get_or (four_of (census_of mantissa exponent)) (at % 4) 0 }
 {
-    let t = short_float_census::counting::count(mantissa, exponent);
-    let four = [t.zeros, t.infinities, t.nans, t.numbers];
-    let i = (at % 4) as usize;
-    four[i]
+    let totals = <[u32; 4]>::from(short_float_census::counting::count(mantissa, exponent));
+    totals[(at % 4) as usize]
 }
 
 #[unsafe(no_mangle)]
@@ -137,8 +131,7 @@ pub extern "C" fn compare_color(value: u32, at: u32) -> f32
     ensures { result ≡ get_or (colour_of value) (at % 3) nan }
 {
     let c = fields::color(value);
-    let i = (at % 3) as usize;
-    c[i]
+    c[(at % 3) as usize]
 }
 
 #[unsafe(no_mangle)]
@@ -176,8 +169,7 @@ pub extern "C" fn compare_cross(
     ensures { result ≡ get_or (cross_of (a0 ∷ a1 ∷ a2 ∷ []) (b0 ∷ b1 ∷ b2 ∷ [])) (at % 3) nan }
 {
     let v = vectors::rotation::cross([a0, a1, a2], [b0, b1, b2]);
-    let i = (at % 3) as usize;
-    v[i]
+    v[(at % 3) as usize]
 }
 
 #[unsafe(no_mangle)]
@@ -185,8 +177,7 @@ pub extern "C" fn compare_normalized(v0: f32, v1: f32, v2: f32, at: u32) -> f32
     ensures { result ≡ get_or (normalized_of (v0 ∷ v1 ∷ v2 ∷ [])) (at % 3) nan }
 {
     let v = vectors::normalized([v0, v1, v2]);
-    let i = (at % 3) as usize;
-    v[i]
+    v[(at % 3) as usize]
 }
 
 #[unsafe(no_mangle)]
@@ -203,8 +194,7 @@ pub extern "C" fn compare_rotate(
     ensures { result ≡ get_or (rotate_of (q0 ∷ q1 ∷ q2 ∷ q3 ∷ []) (v0 ∷ v1 ∷ v2 ∷ [])) (at % 3) nan }
 {
     let v = vectors::rotation::rotate([q0, q1, q2, q3], [v0, v1, v2]);
-    let i = (at % 3) as usize;
-    v[i]
+    v[(at % 3) as usize]
 }
 
 #[unsafe(no_mangle)]
