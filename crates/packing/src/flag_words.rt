@@ -6,6 +6,7 @@ ghost use Rattle.lighting.specs.Lighting.{bump_unit, shadow_unit};
 use lighting::{Bump, Light, Shadow};
 
 // `weight` where the flag is set.
+#[tactic(auto, unfolding(block::specs::Block::flag_word))]
 pub(crate) fn flag(set: bool, weight: u32) -> u32
     ensures { (result ≡ flag_word set weight) × (result ≤ weight) }
 {
@@ -20,6 +21,7 @@ fn unit_bits(unit: usize) -> u32
     16 * (unit as u32)
 }
 
+#[tactic(auto, unfolding(block::specs::Block::bump_word, lighting::specs::Lighting::bump_unit))]
 pub(crate) fn bump_word(bump: Bump) -> u32
     requires { bump_unit bump ≤ 3 }
     ensures { result ≡ bump_word bump }
@@ -31,6 +33,7 @@ pub(crate) fn bump_word(bump: Bump) -> u32
     }
 }
 
+#[tactic(auto, unfolding(block::specs::Block::shadow_word, lighting::specs::Lighting::shadow_unit))]
 pub(crate) fn shadow_word(shadow: Option<Shadow>) -> u32
     requires { shadow_unit shadow ≤ 3 }
     ensures { result ≡ shadow_word shadow }
@@ -47,6 +50,7 @@ pub(crate) fn shadow_word(shadow: Option<Shadow>) -> u32
     }
 }
 
+#[tactic(auto, unfolding(block::specs::Block::flags_word))]
 pub(crate) fn flags_word(l: Light) -> u32
     ensures { result ≡ flags_word l }
 {

@@ -46,6 +46,7 @@ pub fn fill(block: &mut [u32], l: Lighting)
 }
 
 // The block of a lighting, or a refusal and the block as it was.
+#[tactic(auto, unfolding(block::specs::Block::packs, block::specs::Block::pack_refusal, block::specs::Block::lighting_refusal, refusals::specs::Refusals::block_refusal), using(block::proofs::AcceptedLaws::accepted_range))]
 pub fn pack(lighting: Lighting, block: &mut [u32]) -> Result<(), Refusal>
     ensures { packing (outcome_number result) block.new ≡ packs lighting block.old }
 {

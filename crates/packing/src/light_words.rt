@@ -27,6 +27,7 @@ fn put_places(block: &mut [u32], at: usize, l: Light)
 }
 
 // Bias, scale and padding.
+#[tactic(auto, unfolding(block::specs::Block::distance_words, block::specs::Block::distance_row))]
 fn put_distance(block: &mut [u32], at: usize, distance: Option<Distance>)
     requires { at + 4 ≤ length block.old }
     ensures { block.new ≡ put_words block.old at (distance_words distance) }
