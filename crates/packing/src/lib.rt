@@ -9,7 +9,7 @@ mod rows;
 
 ghost use Rattle.std.specs.Prelude.{◌≡◌, true, cond, ◌≤◌, ◌<◌, length, replicate};
 ghost use Rattle.refusals.specs.Refusals.{outcome_number};
-ghost use Rattle.block.specs.Block.{light_words, packed, slot_at, packing, packs};
+ghost use Rattle.block.specs.Block.{slot_words, packed, slot_at, packing, packs};
 ghost use Rattle.lighting.specs.Lighting.{in_range};
 ghost use Rattle.packing.specs.Steps.{put_words};
 
@@ -17,17 +17,18 @@ use crate::head_words::put_head;
 use crate::light_words::put_light;
 use crate::rows::put_zeros;
 use block::slot_at;
-use lighting::{Light, Lighting, Slot};
+use lighting::{Lighting, Slot};
 use refusals::Refusal;
 
 // Each slot's part by itself: its light's words, or zeros where it isn't lit.
-fn put_slot(block: &mut [u32], slot: Slot, lit: bool, light: Light)
-    requires { (length block.old ≡ 328) × (slot.0 < 8) × (lit ≡ true → light.number.0 ≤ 7) }
-    ensures { block.new ≡ put_words block.old (slot_at slot) (cond lit (light_words light) (replicate 36 0)) }
+#[tactic(auto, unfolding(block::specs::Block::slot_words, lighting::specs::Lighting::light_at), using(block::proofs::PackedLaws::range_number))]
+fn put_slot(block: &mut [u32], l: &Lighting, slot: Slot)
+    requires { (length block.old ≡ 328) × (in_range l.now ≡ true) × (slot.0 < 8) }
+    ensures { block.new ≡ put_words block.old (slot_at slot) (slot_words l.now slot) }
 {
     let at = slot_at(slot);
-    if lit {
-        put_light(block, at, light);
+    if slot.0 < l.light_count {
+        put_light(block, at, l.lights[slot.0]);
     } else {
         put_zeros(block, at);
     }
@@ -41,7 +42,7 @@ pub fn fill(block: &mut [u32], l: Lighting)
 {
     put_head(block, l);
     for slot in 0..8 {
-        put_slot(block, Slot(slot), slot < l.light_count, l.lights[slot]);
+        put_slot(block, &l, Slot(slot));
     }
 }
 
@@ -53,9 +54,9 @@ pub fn pack(lighting: Lighting, block: &mut [u32]) -> Result<(), Refusal>
     if block.len() != 328 {
         return Err(Refusal::WrongBlock);
     }
-    if block::accepted::acceptable(lighting) {
-        fill(block, lighting);
-        return Ok(());
+    if !block::accepted::acceptable(lighting) {
+        return Err(Refusal::NotWellFormed);
     }
-    Err(Refusal::NotWellFormed)
+    fill(block, lighting);
+    Ok(())
 }
