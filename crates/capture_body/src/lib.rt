@@ -5,10 +5,14 @@ mod writes;
 
 ghost use Rattle.std.specs.Prelude.{◌≡◌, ◌+◌, ◌*◌, ◌/◌, ◌≤◌, length};
 ghost use Rattle.printing.specs.Steps.{out as out_at, puts};
+ghost use Rattle.lists.specs.Calls.{step};
+ghost use Rattle.lists.specs.Ours.{ours};
+ghost use Rattle.capture_calls.specs.Capture.{hand_over_call};
 ghost use Rattle.capture_calls.specs.Steps.{after_body, after_lines};
 ghost use Rattle.capture_body.specs.Steps.{lent_state};
 
 use crate::writes::{restore_body, write_pairs};
+use capture_check::contents::BodyKind;
 use capture_lines::print_fragments;
 use unit::Cache;
 
@@ -25,6 +29,31 @@ pub struct Held {
 pub struct Ran {
     pub held: Held,
     pub next: usize,
+}
+
+// The hand-over before a kind 2 body's fragments; what is held afterwards. Refused, it stays.
+fn hand_over(
+    file: &[u32],
+    tables: &[u32],
+    block: &mut [u32],
+    copied: &mut [u32],
+    held: Held,
+) -> Held
+    ensures { lent_state file.now tables.now block.new copied.new result ≡ step ours (lent_state file.now tables.now block.old copied.old held) hand_over_call }
+{
+    let Held {
+        generation,
+        cache,
+        age,
+    } = held;
+    match unit::handing_over::hand_over(file, tables, generation, cache, block, copied, age) {
+        Ok(over) => Held {
+            generation,
+            cache: over.cache,
+            age: over.generation,
+        },
+        Err(_) => held,
+    }
 }
 
 // One body, by its kind: `copied` are the copy's tables.
@@ -45,41 +74,22 @@ pub fn run_body(
     ensures text { out_at out.new result.next ≡ puts (out_at out.old at) (after_lines (after_body (lent_state file.old tables.old block.old copied.old held) kind body.now) kind body.now) }
     ensures room { result.next ≤ at + 32 * (length body.now / 23) }
 {
-    let generation = held.generation;
-    let cache = held.cache;
-    let age = held.age;
-    match kind {
-        1 => {
-            let generation = write_pairs(file, tables, generation, body);
-            let held = Held {
-                generation,
-                cache,
-                age,
-            };
+    match BodyKind::from_number(kind) {
+        Some(BodyKind::Writes) => {
+            let generation = write_pairs(file, tables, held.generation, body);
+            let held = Held { generation, ..held };
             Ran { held, next: at }
         }
-        2 => {
-            let over = unit::handing_over::hand_over(
-                file, tables, generation, cache, block, copied, age,
-            );
-            let cache = over.cache;
-            let held = Held {
-                generation,
-                cache,
-                age: over.generation,
-            };
+        Some(BodyKind::Fragments) => {
+            let held = hand_over(file, tables, block, copied, held);
             let next = print_fragments(block, copied, body, out, at);
             Ran { held, next }
         }
-        3 => {
-            let generation = restore_body(tables, generation, body);
-            let held = Held {
-                generation,
-                cache,
-                age,
-            };
+        Some(BodyKind::Restore) => {
+            let generation = restore_body(tables, held.generation, body);
+            let held = Held { generation, ..held };
             Ran { held, next: at }
         }
-        _ => Ran { held, next: at },
+        None => Ran { held, next: at },
     }
 }

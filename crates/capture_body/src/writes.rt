@@ -8,8 +8,6 @@ ghost use Rattle.lists.specs.Calls.Lent.{own};
 ghost use Rattle.lists.specs.Ours.{ours};
 ghost use Rattle.capture_calls.specs.Capture.{pair_calls, restore_call};
 
-use tables::Written;
-
 // One register write; the unit's generation afterwards. Whatever cache and copy stand beside the unit's slices stay.
 fn write_one(
     file: &mut [u32],
@@ -20,11 +18,7 @@ fn write_one(
 ) -> u64
     ensures { (c : Cache) (k : CopyState) → state (unit_state file.new tables.new result c) k ≡ step ours (state (unit_state file.old tables.old generation c) k) (Write own own register value) }
 {
-    let written = tables::registers::write(file, tables, generation, register, value);
-    match written {
-        Written::Refused(_) => generation,
-        Written::Done(raised) => raised,
-    }
+    tables::registers::write(file, tables, generation, register, value).unwrap_or(generation)
 }
 
 // A kind 1 body.
@@ -36,12 +30,9 @@ pub(crate) fn write_pairs(
 ) -> u64
     ensures { (c : Cache) (k : CopyState) → state (unit_state file.new tables.new result c) k ≡ run ours (state (unit_state file.old tables.old generation c) k) (pair_calls pairs.now) }
 {
-    let count = pairs.len() / 2;
     let mut g = generation;
-    let mut i = 0;
-    while i < count {
-        g = write_one(file, tables, g, pairs[2 * i], pairs[2 * i + 1]);
-        i += 1;
+    for [register, value] in pairs.as_chunks::<2>().0 {
+        g = write_one(file, tables, g, *register, *value);
     }
     g
 }
@@ -50,9 +41,5 @@ pub(crate) fn write_pairs(
 pub(crate) fn restore_body(tables: &mut [u32], generation: u64, saved: &[u32]) -> u64
     ensures { (f : List ℕ) (c : Cache) (k : CopyState) → state (unit_state f tables.new result c) k ≡ step ours (state (unit_state f tables.old generation c) k) (restore_call saved.now) }
 {
-    let written = tables::copies::restore(tables, generation, saved);
-    match written {
-        Written::Refused(_) => generation,
-        Written::Done(raised) => raised,
-    }
+    tables::copies::restore(tables, generation, saved).unwrap_or(generation)
 }

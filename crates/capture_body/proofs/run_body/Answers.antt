@@ -1,55 +1,52 @@
 -- `capture_body::run_body` meets its contract. Each arm makes the calls of its kind, and only a kind 2 body prints, from the copy that its own
 -- hand-over left.
-use native.Mathlib.Omega.{arith}
-use mathlib.Core.Path.{ap, ◌∙◌}
+use Rattle.std.proofs.Common.{arith, sym, ap, refl, ◌∙◌}
 use Rattle.unit.specs.declared.Cache.{Cache}
 use Rattle.lists.specs.States.{State}
 use Rattle.printing.specs.Steps.{out, puts}
+use Rattle.capture_check.specs.KindsLaws.{kind_is, kind_none}
 use Rattle.capture_calls.specs.Steps.{after_lines}
 use Rattle.capture_body.proofs.ByKind.{after_writes, after_hand_over, after_restore, after_other, prints_lines, prints_nothing}
 use Rattle.capture_body.proofs.run_body.Goals as goal
 
-pub returns-in-1 : goal.returns-in-1
-returns-in-1 c =
+pub returns-in-Some-Writes : goal.returns-in-Some-Writes
+returns-in-Some-Writes c =
     let a = c.args in
-    let k = c.in-1.is in
-    let w = c.write_pairs-generation in
+    let k = kind_is a.kind _ (sym (rw c.in-Some-Writes.field-0-is at c.in-Some-Writes.ensures)) in
     record {
-      state = after_writes a.file.now a.tables.now a.block.now a.copied.now a.held a.kind a.body.now k _ _ _ w.ensures;
-      text = prints_nothing _ a.kind a.body.now (out a.out.now a.at) (λ e. omega (arith, k, e));
+      state = after_writes a.file.now a.tables.now a.block.now a.copied.now a.held a.kind a.body.now k _ _ _ c.write_pairs-generation.ensures;
+      text = prints_nothing _ a.kind a.body.now (out a.out.now a.at) (rw k refl);
       room = omega arith;
     }
 
-pub returns-in-2 : goal.returns-in-2
-returns-in-2 c =
+pub returns-in-Some-Fragments : goal.returns-in-Some-Fragments
+returns-in-Some-Fragments c =
     let a = c.args in
-    let k = c.in-2.is in
-    let h = c.hand_over-over in
+    let k = kind_is a.kind _ (sym (rw c.in-Some-Fragments.field-0-is at c.in-Some-Fragments.ensures)) in
     let p = c.print_fragments-next in
-    let e = after_hand_over a.file.now a.tables.now a.block.now a.copied.now a.held a.kind a.body.now k _ h.ensures in
+    let e = after_hand_over a.file.now a.tables.now a.block.now a.copied.now a.held a.kind a.body.now k _ _ _ c.hand_over-held.ensures in
     record {
       state = e;
       text = p.ensures.0 ∙ ap (puts (out a.out.now a.at)) (prints_lines _ a.kind a.body.now k ∙ ap (λ (x : State Cache). after_lines x a.kind a.body.now) e);
       room = p.ensures.1;
     }
 
-pub returns-in-3 : goal.returns-in-3
-returns-in-3 c =
+pub returns-in-Some-Restore : goal.returns-in-Some-Restore
+returns-in-Some-Restore c =
     let a = c.args in
-    let k = c.in-3.is in
-    let r = c.restore_body-generation in
+    let k = kind_is a.kind _ (sym (rw c.in-Some-Restore.field-0-is at c.in-Some-Restore.ensures)) in
     record {
-      state = after_restore a.file.now a.tables.now a.block.now a.copied.now a.held a.kind a.body.now k _ _ r.ensures;
-      text = prints_nothing _ a.kind a.body.now (out a.out.now a.at) (λ e. omega (arith, k, e));
+      state = after_restore a.file.now a.tables.now a.block.now a.copied.now a.held a.kind a.body.now k _ _ c.restore_body-generation.ensures;
+      text = prints_nothing _ a.kind a.body.now (out a.out.now a.at) (rw k refl);
       room = omega arith;
     }
 
-pub returns-in_default : goal.returns-in_default
-returns-in_default c =
+pub returns-in-None : goal.returns-in-None
+returns-in-None c =
     let a = c.args in
-    let k = c.in_default.in_default-own.rest in
+    let none = kind_none a.kind (sym (rw c.in-None.is at c.from_number.ensures)) in
     record {
-      state = after_other a.file.now a.tables.now a.block.now a.copied.now a.held a.kind a.body.now k.0.0.1 k.0.1 k.1;
-      text = prints_nothing _ a.kind a.body.now (out a.out.now a.at) k.0.1;
+      state = after_other a.file.now a.tables.now a.block.now a.copied.now a.held a.kind a.body.now none.0 none.1 none.2;
+      text = prints_nothing _ a.kind a.body.now (out a.out.now a.at) none.1;
       room = omega arith;
     }

@@ -1,9 +1,5 @@
 -- A turn of the loop over pairs: a write that was made takes what is still to come to the next pair. Assumes nothing.
-use Prim.Native.Nat.{ℕ, ◌+◌, ◌*◌, ◌/◌, ◌≤◌}
-use native.Mathlib.Omega.{arith}
-use mathlib.Core.Path.{◌≡◌, refl}
-use mathlib.Core.List.{List, [], ◌∷◌}
-use lib.ListN.{length, get_or, drop, length-drop}
+use Rattle.std.proofs.Common.{ℕ, ◌+◌, ◌*◌, ◌/◌, ◌≤◌, ◌≡◌, List, [], ◌∷◌, length, get_or, drop, length-drop, refl, arith}
 use Rattle.unit.specs.declared.Cache.{Cache}
 use Rattle.lists.specs.States.{State}
 use Rattle.lists.specs.Calls.{step, run}

@@ -1,18 +1,11 @@
 -- `writes::restore_body` meets its contract: the restore's answer gives the generation of the step, and a refused restore keeps it.
---
-use Prim.Native.Nat.{ℕ}
-use mathlib.Core.Path.{ap}
-use mathlib.Core.List.{List}
-use Rattle.tables.specs.Tables.{Restored}
+use Rattle.std.proofs.Common.{ℕ, List, ap, ◌∙◌}
 use Rattle.unit.specs.declared.Cache.{Cache}
-use Rattle.lists.specs.States.{CopyState, unit_state, state}
+use Rattle.lists.specs.States.{CopyState}
 use Rattle.lists.specs.Calls.{step}
+use Rattle.capture_body.proofs.writes.Answered.{state_with, after_restore}
 use Rattle.capture_body.proofs.writes.restore_body.Goals as goal
 
-pub returns-in-Refused : goal.returns-in-Refused
+pub returns : goal.returns
 unfolding step
-returns-in-Refused c = λ (f : List ℕ) (h : Cache) (k : CopyState). ap (λ (w : Restored). state (unit_state f w.tables w.generation h) k) (rw c.in-Refused.is at c.restore-written.ensures)
-
-pub returns-in-Done : goal.returns-in-Done
-unfolding step
-returns-in-Done c = λ (f : List ℕ) (h : Cache) (k : CopyState). ap (λ (w : Restored). state (unit_state f w.tables w.generation h) k) (rw c.in-Done.is at c.restore-written.ensures)
+returns c = λ (f : List ℕ) (h : Cache) (k : CopyState). rw c.unwrap_or.ensures (after_restore c.restore.result f c.restore.new.tables c.args.generation h k ∙ ap (state_with f h k) c.restore.ensures)

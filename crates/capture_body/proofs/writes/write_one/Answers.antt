@@ -1,15 +1,11 @@
 -- `writes::write_one` meets its contract: the write's answer gives the generation of the step, and a refused write keeps it.
-use mathlib.Core.Path.{ap}
-use Rattle.tables.specs.Tables.{Wrote}
+use Rattle.std.proofs.Common.{ap, ◌∙◌}
 use Rattle.unit.specs.declared.Cache.{Cache}
-use Rattle.lists.specs.States.{CopyState, unit_state, state}
+use Rattle.lists.specs.States.{CopyState}
 use Rattle.lists.specs.Calls.{step}
+use Rattle.capture_body.proofs.writes.Answered.{state_of, after_write}
 use Rattle.capture_body.proofs.writes.write_one.Goals as goal
 
-pub returns-in-Refused : goal.returns-in-Refused
+pub returns : goal.returns
 unfolding step
-returns-in-Refused c = λ (h : Cache) (k : CopyState). ap (λ (w : Wrote). state (unit_state w.file w.tables w.generation h) k) (rw c.in-Refused.is at c.write-written.ensures)
-
-pub returns-in-Done : goal.returns-in-Done
-unfolding step
-returns-in-Done c = λ (h : Cache) (k : CopyState). ap (λ (w : Wrote). state (unit_state w.file w.tables w.generation h) k) (rw c.in-Done.is at c.write-written.ensures)
+returns c = λ (h : Cache) (k : CopyState). rw c.unwrap_or.ensures (after_write c.write.result c.write.new.file c.write.new.tables c.args.generation h k ∙ ap (state_of h k) c.write.ensures)

@@ -1,28 +1,22 @@
 -- `writes::write_pairs` meets its contract. What the writes from the place on leave, of the unit so far, stays what all of them leave.
---
-use native.Mathlib.Omega.{arith}
-use mathlib.Core.Path.{refl, sym, ◌∙◌}
+use Rattle.std.proofs.Common.{◌/◌, length, arith, refl, sym, ◌∙◌}
+use Rattle.tables.proofs.ListLaws.{pair_at}
 use Rattle.unit.specs.declared.Cache.{Cache}
 use Rattle.lists.specs.States.{CopyState, unit_state, state}
 use Rattle.capture_body.proofs.writes.NextPair.{pairs_turn, pairs_none}
-use borrow.Author.Rules.{rules}
 use Rattle.capture_body.proofs.writes.write_pairs.Goals as goal
 
-pub loop-i-init : goal.loop-i-init
-loop-i-init c = (search rules, refl, refl, refl, λ (h : Cache) (k : CopyState). refl)
+pub loop-register-init : goal.loop-register-init
+loop-register-init c = λ (h : Cache) (k : CopyState). refl
 
-pub loop-i-preserved : goal.loop-i-preserved
-loop-i-preserved c =
-    let l = c.loop-i in
-    let w = c.write_one-g in (
-      search rules,
-      refl,
-      omega (arith, w.auto.file),
-      omega (arith, w.auto.tables),
-      λ (h : Cache) (k : CopyState). pairs_turn (state (unit_state l.file l.tables l.g h) k) _ _ _ l.i (omega arith) (w.ensures h k) (l.invariant.4 h k),
-    )
+pub loop-register-preserved : goal.loop-register-preserved
+loop-register-preserved c =
+    let l = c.loop-register in
+    let p = c.args.pairs.now in
+    let e = pair_at c.as_chunks.result.0.now (length p / 2) p l.register-index c.as_chunks.ensures.front (omega (arith, c.as_chunks.ensures.front_len)) in
+    λ (h : Cache) (k : CopyState). pairs_turn (state (unit_state l.file l.tables l.g h) k) _ _ p l.register-index (omega (arith, c.as_chunks.ensures.front_len)) (rw (e.0, e.1) at (c.write_one-g.ensures h k)) (l.invariant h k)
 
 pub returns : goal.returns
 returns c =
-    let l = c.loop-i in
-    λ (h : Cache) (k : CopyState). sym (pairs_none (state (unit_state l.file l.tables l.g h) k) _ l.i (omega arith)) ∙ l.invariant.4 h k
+    let l = c.loop-register in
+    λ (h : Cache) (k : CopyState). sym (pairs_none (state (unit_state l.file l.tables l.g h) k) _ l.register-index (omega (arith, c.as_chunks.ensures.front_len))) ∙ l.invariant h k
