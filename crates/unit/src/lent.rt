@@ -22,7 +22,7 @@ const CACHE_BLOCK: usize = 140;
 
 // Why a call on lent words is refused: as a call on a cache by value is, or for a cache of another length.
 #[derive(Clone, Copy, PartialEq, Eq)]
-pub enum LentRefusal {
+enum LentRefusal {
     Refused(Refusal),
     WrongCache,
 }
