@@ -17,6 +17,7 @@ pub struct Place {
 }
 
 // The float with the bit pattern n. Any NaN pattern is NaN.
+#[tactic(auto, using(crate::specs::NanLaws::none, crate::specs::NanLaws::at_most_infinity, crate::specs::NanLaws::above_infinity, crate::specs::WordsLaws::nan_pattern_is_nan))]
 pub fn float_of(n: u32) -> f32
     ensures { result ≡ float_of n }
 {
@@ -28,6 +29,7 @@ pub fn float_of(n: u32) -> f32
 }
 
 // The bit pattern of x, that of NaN being 7FC00000.
+#[tactic(auto, using(crate::specs::NanLaws::itself, crate::specs::NanLaws::differs, crate::specs::WordsLaws::word_of_nan))]
 pub fn word_of(x: f32) -> u32
     ensures { result ≡ word_of x }
 {

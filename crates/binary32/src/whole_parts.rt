@@ -6,6 +6,7 @@ ghost use Rattle.binary32.specs.Binary32.{floor_of, quantized_of};
 ghost use Rattle.binary32.specs.Steps.{held_of, under_byte, raisable, raised_floor};
 
 // x, but low where x is below it or NaN, and high where that is above it.
+#[tactic(auto, unfolding(crate::specs::Steps::held_of))]
 pub(crate) fn held(x: f32, low: f32, high: f32) -> f32
     ensures { result ≡ held_of x low high }
 {
@@ -62,6 +63,7 @@ pub fn floor(x: f32) -> f32
 
 // 3 * 2^22 more than the floor of a number z from -128 to 256. The last digit of the sum stands for
 // 1, so the sum is rounded to a whole number, which is right or one too many.
+#[tactic(auto, using(crate::specs::RaisedLaws::raised))]
 pub(crate) fn raised_floor(z: f32) -> f32
     requires { T (raisable z) }
     ensures { result ≡ of_int binary32 (pos (raised_floor z)) }

@@ -37,6 +37,7 @@ fn stepped(w: u64, e: u64) -> u64
 }
 
 // The whole number nearest to the root of w, which e nearly always is. No tie is possible: the square of a half is no whole number.
+#[tactic(auto, using(crate::proofs::Squares::sq_mono))]
 fn nearest(w: u64, e: u64) -> u64
     requires { (0 < w) × (w < 2 ^ 48) × (e < 2 ^ 25) }
     ensures { Near w result }
@@ -69,6 +70,7 @@ fn rooted(n: u32) -> u32
 }
 
 // What the pattern b stands for, as n: y is the exponent's field and 125 more, which keeps it above zero where a subnormal's digits are moved up to the leading place.
+#[tactic(auto, using(crate::proofs::Place::subnormal_moved, crate::proofs::Place::subnormal_placed, crate::proofs::Place::normal_placed))]
 fn placed(b: u32) -> u32
     requires { (0 < b) × (b < 0x7f80_0000) }
     ensures { Placed b result }
