@@ -8,7 +8,7 @@ use mathlib.Core.List.{List, [], ◌∷◌}
 use lib.Dec.{T, ltb}
 use lib.ListN.{get_or}
 use borrow.Author.Tests.{ltb-true}
-use Rattle.flags.specs.FlagsLaws.{both_first, both_second}
+use Rattle.std.proofs.lemmas.Bool.{and_parts}
 use Rattle.quotients.specs.Steps.{quotient_words}
 use Rattle.colour_table.specs.Steps.{pairs_of, quotient_pairs}
 
@@ -45,11 +45,11 @@ half [] i zero t h = refl
 half [] i (suc zero) t h = refl
 half [] i (suc (suc p)) t h = past p h
 half (a ∷ []) i p t h = absurd (never t)
-half (a ∷ b ∷ ws) zero zero t h = low a b (ltb-true a 0x100000000 (both_first (ltb a 0x100000000) _ t))
+half (a ∷ b ∷ ws) zero zero t h = low a b (ltb-true a 0x100000000 (and_parts (ltb a 0x100000000) _ t).0)
 half (a ∷ b ∷ ws) zero (suc zero) t h =
-    high a b (ltb-true a 0x100000000 (both_first (ltb a 0x100000000) _ t)) (ltb-true b 0x100000000 (both_first (ltb b 0x100000000) _ (both_second (ltb a 0x100000000) _ t)))
+    high a b (ltb-true a 0x100000000 (and_parts (ltb a 0x100000000) _ t).0) (ltb-true b 0x100000000 (and_parts (ltb b 0x100000000) _ (and_parts (ltb a 0x100000000) _ t).1).0)
 half (a ∷ b ∷ ws) zero (suc (suc p)) t h = past p h
-half (a ∷ b ∷ ws) (suc i) p t h = half ws i p (both_second (ltb b 0x100000000) _ (both_second (ltb a 0x100000000) _ t)) h
+half (a ∷ b ∷ ws) (suc i) p t h = half ws i p (and_parts (ltb b 0x100000000) _ (and_parts (ltb a 0x100000000) _ t).1).1 h
 
 all_narrow : narrow quotient_words ≡ true
 unfolding quotient_words
