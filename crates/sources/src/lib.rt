@@ -2,6 +2,8 @@
 // serves both: an empty slice of bytes says that the words are meant.
 #![tactic(auto)]
 
+pub mod words;
+
 ghost use Rattle.std.specs.Prelude.{◌≡◌, ◌≤◌, ◌<◌, ◌/◌, length, get_or};
 ghost use Rattle.sources.specs.Steps.{given, word_at};
 

@@ -1,0 +1,46 @@
+// Words that a caller has as words or as bytes: one code serves both, by the type of a word. `words_of` sees bytes as words, `value_at` reads one.
+ghost use Rattle.std.specs.Prelude.{◌≡◌, ◌<◌, ℕ, length, map, get_or};
+ghost use Rattle.sources.specs.Sources.{word_of, words_of};
+
+// A word as a caller has it.
+pub trait Word: Copy {
+    ghost value: { Self → ℕ };
+
+    fn value(self) -> u32
+        ensures { result ≡ value self };
+}
+
+// A word as it is.
+impl Word for u32 {
+    ghost value = { λ n. n };
+
+    fn value(self) -> u32 {
+        self
+    }
+}
+
+// Four bytes, the least first.
+impl Word for [u8; 4] {
+    ghost value = { word_of };
+
+    #[tactic(auto, unfolding(crate::specs::Sources::word_of))]
+    fn value(self) -> u32 {
+        u32::from_le_bytes(self)
+    }
+}
+
+// Bytes as words; what is left over at the end is no word.
+pub fn words_of(bytes: &[u8]) -> &[[u8; 4]]
+    ensures { map word_of result.now ≡ words_of bytes.now }
+{
+    bytes.as_chunks().0
+}
+
+// Word number `at`.
+// Asks: there is such a word; the caller has counted them once for all its reads.
+pub fn value_at<W: Word>(words: &[W], at: usize) -> u32
+    requires { at < length words.now }
+    ensures { result ≡ get_or (map W.value words.now) at 0 }
+{
+    words[at].value()
+}
