@@ -1,47 +1,44 @@
 // The head of a block: its options, its seven lookups, and its padding.
-ghost use Rattle.std.specs.Prelude.{◌≡◌, ◌+◌, ◌≤◌, length};
-ghost use Rattle.sources.specs.Steps.{given};
+ghost use Rattle.std.specs.Prelude.{◌≡◌, ◌+◌, ◌≤◌, length, map};
 ghost use Rattle.block.specs.Block.{words, from as from_of};
 ghost use Rattle.block_check.specs.Steps.{lookup_formed, lookups_formed, head_formed};
 
 use crate::options::options_formed;
 use crate::zeros::are_zero;
 use block::scale_formed;
-use sources::word;
+use sources::words::{Word, value_at};
 
 // A lookup of four words: presence, input, absolute, scale. A missing one has zero words.
-fn lookup_formed(block: &[u32], bytes: &[u8], at: usize) -> bool
-    requires { (length (given block.now bytes.now) ≡ 328) × (at + 4 ≤ 328) }
-    ensures { result ≡ lookup_formed (from_of (words (given block.now bytes.now)) at) }
+fn lookup_formed<W: Word>(block: &[W], at: usize) -> bool
+    requires { (length block.now ≡ 328) × (at + 4 ≤ 328) }
+    ensures { result ≡ lookup_formed (from_of (words (map W.value block.now)) at) }
 {
-    if word(block, bytes, at) == 1 {
-        return (word(block, bytes, at + 1) < 8)
-            & (word(block, bytes, at + 2) < 2)
-            & scale_formed(word(block, bytes, at + 3));
+    if value_at(block, at) == 1 {
+        return (value_at(block, at + 1) < 8)
+            & (value_at(block, at + 2) < 2)
+            & scale_formed(value_at(block, at + 3));
     }
-    are_zero(block, bytes, at, 4)
+    are_zero(block, at, 4)
 }
 
-fn lookups_formed(block: &[u32], bytes: &[u8]) -> bool
-    requires { length (given block.now bytes.now) ≡ 328 }
-    ensures { result ≡ lookups_formed (words (given block.now bytes.now)) 7 }
+fn lookups_formed<W: Word>(block: &[W]) -> bool
+    requires { length block.now ≡ 328 }
+    ensures { result ≡ lookups_formed (words (map W.value block.now)) 7 }
 {
-    let mut k = 0;
-    while k < 7 {
-        if !lookup_formed(block, bytes, 8 + 4 * k) {
+    for k in 0..7 {
+        if !lookup_formed(block, 8 + 4 * k) {
             return false;
         }
-        k += 1;
     }
     true
 }
 
-pub(crate) fn head_formed(block: &[u32], bytes: &[u8]) -> bool
-    requires { length (given block.now bytes.now) ≡ 328 }
-    ensures { result ≡ head_formed (words (given block.now bytes.now)) }
+pub(crate) fn head_formed<W: Word>(block: &[W]) -> bool
+    requires { length block.now ≡ 328 }
+    ensures { result ≡ head_formed (words (map W.value block.now)) }
 {
-    options_formed(block, bytes)
-        & lookups_formed(block, bytes)
-        & (word(block, bytes, 32) == 1)
-        & (word(block, bytes, 39) == 0)
+    options_formed(block)
+        & lookups_formed(block)
+        & (value_at(block, 32) == 1)
+        & (value_at(block, 39) == 0)
 }

@@ -10,8 +10,7 @@ mod lights;
 mod options;
 mod zeros;
 
-ghost use Rattle.std.specs.Prelude.{◌≡◌, ◌≤◌, length};
-ghost use Rattle.sources.specs.Steps.{given};
+ghost use Rattle.std.specs.Prelude.{◌≡◌, ◌≤◌, length, map};
 ghost use Rattle.block.specs.Block.{words};
 ghost use Rattle.block.specs.Steps.{form_of, block_form};
 
@@ -20,42 +19,42 @@ use crate::head::head_formed;
 use crate::lights::lights_found;
 use crate::zeros::{are_zero, unused_are_zero};
 use block::BlockForm;
-use sources::word;
+use sources::words::{Word, value_at};
 
 // A block of another length is not well formed.
-pub fn form(block: &[u32], bytes: &[u8]) -> BlockForm
-    ensures { result ≡ block_form (given block.now bytes.now) }
+pub fn form<W: Word>(block: &[W]) -> BlockForm
+    ensures { result ≡ block_form (map W.value block.now) }
 {
-    if sources::count(block, bytes) != 328 {
+    if block.len() != 328 {
         return BlockForm::NotWellFormed;
     }
-    if word(block, bytes, 1) == 0 {
-        if are_zero(block, bytes, 0, 328) {
+    if value_at(block, 1) == 0 {
+        if are_zero(block, 0, 328) {
             return BlockForm::Off;
         }
         return BlockForm::NotWellFormed;
     }
-    if 8 < word(block, bytes, 1) {
+    if 8 < value_at(block, 1) {
         return BlockForm::NotWellFormed;
     }
-    lit_form(block, bytes)
+    lit_form(block)
 }
 
 // The form of a block of 328 words with a count of 1 to 8.
-fn lit_form(block: &[u32], bytes: &[u8]) -> BlockForm
-    requires { (length (given block.now bytes.now) ≡ 328) × (words (given block.now bytes.now) 1 ≡ 0 → ⊥) × (words (given block.now bytes.now) 1 ≤ 8) }
-    ensures { result ≡ form_of (words (given block.now bytes.now)) }
+fn lit_form<W: Word>(block: &[W]) -> BlockForm
+    requires { (length block.now ≡ 328) × (words (map W.value block.now) 1 ≡ 0 → ⊥) × (words (map W.value block.now) 1 ≤ 8) }
+    ensures { result ≡ form_of (words (map W.value block.now)) }
 {
-    let count = word(block, bytes, 1) as usize;
-    if !unused_are_zero(block, bytes, count) {
+    let count = value_at(block, 1) as usize;
+    if !unused_are_zero(block, count) {
         return BlockForm::NotWellFormed;
     }
-    if !head_formed(block, bytes) {
+    if !head_formed(block) {
         return BlockForm::NotWellFormed;
     }
-    let found = lights_found(block, bytes, count);
+    let found = lights_found(block, count);
     if !lights::are_formed(found) {
         return BlockForm::NotWellFormed;
     }
-    floats_form(block, bytes, count, lanes::are_clear(found.nans))
+    floats_form(block, count, lanes::are_clear(found.nans))
 }

@@ -1,10 +1,9 @@
 // The words of a block's head before its lookups: configuration, bump, shadow, fresnel, clamp and needs.
-ghost use Rattle.std.specs.Prelude.{◌≡◌, length};
-ghost use Rattle.sources.specs.Steps.{given};
+ghost use Rattle.std.specs.Prelude.{◌≡◌, length, map};
 ghost use Rattle.block.specs.Block.{words, bump_formed, shadow_formed};
 ghost use Rattle.block_check.specs.Steps.{options_formed};
 
-use sources::word;
+use sources::words::{Word, value_at};
 
 fn bump_formed(n: u32) -> bool
     ensures { result ≡ bump_formed n }
@@ -18,16 +17,16 @@ fn shadow_formed(n: u32) -> bool
     (n == 0) | ((n % 16 == 1) & (n / 16 % 16 < 4) & (n < 4096))
 }
 
-pub(crate) fn options_formed(block: &[u32], bytes: &[u8]) -> bool
-    requires { length (given block.now bytes.now) ≡ 328 }
-    ensures { result ≡ options_formed (words (given block.now bytes.now)) }
+pub(crate) fn options_formed<W: Word>(block: &[W]) -> bool
+    requires { length block.now ≡ 328 }
+    ensures { result ≡ options_formed (words (map W.value block.now)) }
 {
-    (word(block, bytes, 0) < 16)
-        & bump_formed(word(block, bytes, 2))
-        & shadow_formed(word(block, bytes, 3))
-        & (word(block, bytes, 4) < 2)
-        & (word(block, bytes, 5) < 2)
-        & (word(block, bytes, 6) < 2)
-        & (word(block, bytes, 7) < 4)
-        & (word(block, bytes, 7) != 1)
+    (value_at(block, 0) < 16)
+        & bump_formed(value_at(block, 2))
+        & shadow_formed(value_at(block, 3))
+        & (value_at(block, 4) < 2)
+        & (value_at(block, 5) < 2)
+        & (value_at(block, 6) < 2)
+        & (value_at(block, 7) < 4)
+        & (value_at(block, 7) != 1)
 }

@@ -6,12 +6,12 @@ use Rattle.block_check.proofs.floats.floats_form.Goals as goal
 
 pub returns-then-plain : goal.returns-then-plain
 unfolding floats_form
-returns-then-plain c = rw (sym c.requires.2 ∙ c.if-plain.true) refl
+returns-then-plain g c = rw (sym c.requires.2 ∙ c.if-plain.true) refl
 
 pub returns-then-odd_nans-eq0 : goal.returns-then-odd_nans-eq0
 unfolding floats_form
-returns-then-odd_nans-eq0 c = rw (sym c.requires.2 ∙ c.if-plain.false, sym c.odd_nans.ensures ∙ eq-eqb c.odd_nans.result 0 c.if-odd_nans-eq0.true) refl
+returns-then-odd_nans-eq0 g c = rw (sym c.requires.2 ∙ c.if-plain.false, sym c.odd_nans.ensures ∙ eq-eqb c.odd_nans.result 0 c.if-odd_nans-eq0.true) refl
 
 pub returns : goal.returns
 unfolding floats_form
-returns c = rw (sym c.requires.2 ∙ c.if-plain.false, sym c.odd_nans.ensures ∙ ne_eqb c.odd_nans.result 0 c.if-odd_nans-eq0.false) refl
+returns g c = rw (sym c.requires.2 ∙ c.if-plain.false, sym c.odd_nans.ensures ∙ ne_eqb c.odd_nans.result 0 c.if-odd_nans-eq0.false) refl

@@ -10,11 +10,11 @@ use Rattle.block_check.proofs.floats.odd_nans.Goals as goal
 
 pub loop-k-init : goal.loop-k-init
 unfolding every
-loop-k-init c = (omega arith, refl)
+loop-k-init g c = (omega arith, refl)
 
 pub loop-k-preserved : goal.loop-k-preserved
 unfolding every
-loop-k-preserved c = (omega arith, rw add-one (or_more c.loop-k.bits c.odd_nan_bit-bits.result _ _ c.loop-k.invariant.1 (c.odd_nan_bit-bits.ensures ∙ ap float_formed c.word.ensures)))
+loop-k-preserved g c = (omega arith, rw add-one (or_more c.loop-k.bits c.odd_nan_bit-bits.result _ _ c.loop-k.invariant.1 (c.odd_nan_bit-bits.ensures ∙ ap float_formed c.value_at.ensures)))
 
 pub returns : goal.returns
-returns c = let e : c.loop-k.k ≡ c.args.count = omega arith in rw e at c.loop-k.invariant.1
+returns g c = let e : c.loop-k.k ≡ c.args.count = omega arith in rw e at c.loop-k.invariant.1

@@ -5,4 +5,4 @@ use Rattle.block_check.proofs.head.head_formed.Goals as goal
 
 pub returns : goal.returns
 unfolding head_formed
-returns c = rw (c.options_formed.ensures, c.lookups_formed.ensures, c.word.ensures, c.word-2.ensures) refl
+returns g c = rw (c.options_formed.ensures, c.lookups_formed.ensures, c.value_at.ensures, c.value_at-2.ensures) refl

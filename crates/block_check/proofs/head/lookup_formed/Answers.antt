@@ -1,5 +1,6 @@
 -- `head::lookup_formed` meets its contract: a lookup that is there has the tests of its three words, and one that isn't is formed exactly if its four words are
 -- zero, since a presence below 2 that is not 1 is 0.
+use Rattle.std.proofs.Common.{map}
 use Prim.Native.Nat.{ℕ, ◌+◌, ◌<◌}
 use native.Mathlib.Omega.{arith}
 use native.Mathlib.Nat.{add-zero}
@@ -9,7 +10,6 @@ use mathlib.Core.List.{List, [], ◌∷◌}
 use lib.Dec.{eqb, ltb, lit<}
 use borrow.Author.Tests.{eq-eqb, ne_eqb, ltb-true}
 use Rattle.std.specs.Cmp.{both_ways}
-use Rattle.sources.specs.Steps.{given}
 use Rattle.lighting.specs.Forms.{every}
 use Rattle.block.specs.Block.{words, from, zeros, scale_formed}
 use Rattle.block.specs.TestLaws.{chain_first, chain_part}
@@ -44,15 +44,15 @@ moved w at = refl
 first : (w : ℕ → ℕ) (at n : ℕ) → n ≡ w at → n ≡ w (at + 0)
 first w at n e = rw (add-zero at) e
 
-pub returns-then-word-eq1 : goal.returns-then-word-eq1
-returns-then-word-eq1 c =
+pub returns-then-value_at-eq1 : goal.returns-then-value_at-eq1
+returns-then-value_at-eq1 g c =
     let a = c.args in
-    let w = words (given a.block.now a.bytes.now) in
-    rw (c.scale_formed.ensures, c.word-then-word-eq1-3.ensures, c.word-then-word-eq1-2.ensures, c.word-then-word-eq1.ensures)
-    (present (from w a.at) (sym (first w a.at _ c.word.ensures) ∙ c.if-word-eq1.true))
+    let w = words (map g.W.Word.value a.block.now) in
+    rw (c.scale_formed.ensures, c.value_at-then-value_at-eq1-3.ensures, c.value_at-then-value_at-eq1-2.ensures, c.value_at-then-value_at-eq1.ensures)
+    (present (from w a.at) (sym (first w a.at _ c.value_at.ensures) ∙ c.if-value_at-eq1.true))
 
 pub returns : goal.returns
-returns c =
+returns g c =
     let a = c.args in
-    let w = words (given a.block.now a.bytes.now) in
-    c.are_zero.ensures ∙ moved w a.at ∙ missing (from w a.at) (λ e. c.if-word-eq1.false (first w a.at _ c.word.ensures ∙ e))
+    let w = words (map g.W.Word.value a.block.now) in
+    c.are_zero.ensures ∙ moved w a.at ∙ missing (from w a.at) (λ e. c.if-value_at-eq1.false (first w a.at _ c.value_at.ensures ∙ e))

@@ -5,4 +5,4 @@ use Rattle.block_check.proofs.options.options_formed.Goals as goal
 
 pub returns : goal.returns
 unfolding options_formed
-returns c = rw (c.word.ensures, c.bump_formed.ensures, c.word-2.ensures, c.shadow_formed.ensures, c.word-3.ensures, c.word-4.ensures, c.word-5.ensures, c.word-6.ensures, c.word-7.ensures, c.word-8.ensures) refl
+returns g c = rw (c.value_at.ensures, c.bump_formed.ensures, c.value_at-2.ensures, c.shadow_formed.ensures, c.value_at-3.ensures, c.value_at-4.ensures, c.value_at-5.ensures, c.value_at-6.ensures, c.value_at-7.ensures, c.value_at-8.ensures) refl

@@ -2,4 +2,4 @@
 use Rattle.block_check.proofs.zeros.are_zero.Goals as goal
 
 pub returns : goal.returns
-returns c = c.mixed.ensures
+returns g c = c.mixed.ensures

@@ -10,11 +10,11 @@ use Rattle.block_check.proofs.zeros.mixed.Goals as goal
 
 pub loop-k-init : goal.loop-k-init
 unfolding zeros every
-loop-k-init c = (omega arith, refl)
+loop-k-init g c = (omega arith, refl)
 
 pub loop-k-preserved : goal.loop-k-preserved
 unfolding zeros every
-loop-k-preserved c = (omega arith, rw add-one (or_more c.loop-k.bits c.word-bits.result _ _ c.loop-k.invariant.1 (ap (λ n. eqb n 0) c.word-bits.ensures)))
+loop-k-preserved g c = (omega arith, rw add-one (or_more c.loop-k.bits c.value_at-bits.result _ _ c.loop-k.invariant.1 (ap (λ n. eqb n 0) c.value_at-bits.ensures)))
 
 pub returns : goal.returns
-returns c = let e : c.loop-k.k ≡ c.args.count = omega arith in rw e at c.loop-k.invariant.1
+returns g c = let e : c.loop-k.k ≡ c.args.count = omega arith in rw e at c.loop-k.invariant.1

@@ -1,10 +1,10 @@
 -- `zeros::with_slot` meets its contract. The loop's invariant: the lanes are clear exactly if they were before and each word of the rows that are passed is zero.
+use Rattle.std.proofs.Common.{map}
 use Prim.Native.Nat.{◌+◌, ◌*◌}
 use native.Mathlib.Omega.{arith}
 use mathlib.Core.Path.{◌≡◌, sym}
 use mathlib.Core.Bool.{and-true}
 use lib.Dec.{eqb}
-use Rattle.sources.specs.Steps.{given}
 use Rattle.lighting.specs.Forms.{every}
 use Rattle.block.specs.Block.{words, zeros}
 use Rattle.block_check.specs.Steps.{clear}
@@ -13,30 +13,24 @@ use Rattle.block_check.proofs.zeros.with_slot.Goals as goal
 
 pub loop-row-init : goal.loop-row-init
 unfolding zeros every
-loop-row-init c = (omega arith, sym (and-true (clear c.args.before)))
+loop-row-init g c = (omega arith, sym (and-true (clear c.args.before)))
 
 pub overflow_mul-row : goal.overflow_mul-row
-overflow_mul-row c = omega arith
+overflow_mul-row g c = omega arith
 
 pub overflow_add-at : goal.overflow_add-at
-overflow_add-at c = omega arith
+overflow_add-at g c = omega arith
 
 pub with_row-lanes-requires : goal.with_row-lanes-requires
-with_row-lanes-requires c = (c.requires.0, omega arith)
-
-pub overflow_add-row : goal.overflow_add-row
-overflow_add-row c = omega arith
-
-pub loop-row-smaller : goal.loop-row-smaller
-loop-row-smaller c = omega arith
+with_row-lanes-requires g c = (c.requires.0, omega arith)
 
 pub loop-row-preserved : goal.loop-row-preserved
 unfolding zeros
-loop-row-preserved c =
+loop-row-preserved g c =
     let a = c.args in
     let l = c.loop-row in
     let e : 4 * (l.row + 1) ≡ 4 * l.row + 4 = omega arith in
-    (omega arith, rw e (then_more (λ n. eqb n 0) (words (given a.block.now a.bytes.now)) a.at (4 * l.row) 4 (clear a.before) _ _ l.invariant.1 c.with_row-lanes.ensures))
+    (omega arith, rw e (then_more (λ n. eqb n 0) (words (map g.W.Word.value a.block.now)) a.at (4 * l.row) 4 (clear a.before) _ _ l.invariant.1 c.with_row-lanes.ensures))
 
 pub returns : goal.returns
-returns c = let e : c.loop-row.row ≡ 9 = omega arith in rw e at c.loop-row.invariant.1
+returns g c = let e : c.loop-row.row ≡ 9 = omega arith in rw e at c.loop-row.invariant.1
