@@ -3,13 +3,12 @@
 use Prim.Native.Nat.{ℕ}
 use mathlib.Core.Path.{◌≡◌, refl, sym, ap, ◌∙◌}
 use mathlib.Core.Bool.{Bool, true, false, cond, ◌||◌}
-use mathlib.Core.List.{List, []}
+use mathlib.Core.List.{List, map}
 use lib.Dec.{eqb}
 use lib.ListN.{length}
 use borrow.Author.Tests.{eq-eqb, ne_eqb}
 use Rattle.refusals.specs.Refusals.{block_refusal}
-use Rattle.sources.specs.Steps.{given}
-use Rattle.sources.specs.SourcesLaws.{given-words}
+use Rattle.sources.proofs.WordsLaws.{word_values}
 use Rattle.lighting.specs.declared.Lighting.{Lighting}
 use Rattle.lighting.specs.Lighting.{off, on}
 use Rattle.block.specs.declared.BlockForm.{BlockForm}
@@ -41,18 +40,18 @@ by_form b e = rw (eq-eqb (length b) 328 e) (go (all_zero (words b)) (well_formed
     go false true false = refl
     go false false n = refl
 
--- with no bytes the words are the block's own
-module _ (b : List ℕ) (f g : BlockForm) (form : f ≡ block_form (given b [])) (told : f ≡ g) where
+-- the values of words that are words are these
+module _ (b : List ℕ) (f g : BlockForm) (form : f ≡ block_form (map (λ (n : ℕ). n) b)) (told : f ≡ g) where
   form_told : block_form b ≡ g
-  form_told = ap block_form (sym (given-words b [] refl)) ∙ sym form ∙ told
+  form_told = ap block_form (sym (word_values b)) ∙ sym form ∙ told
 
   pub read-dark : length b ≡ 328 → read_as g (block_lighting (words b)) ≡ block_read b
   read-dark e = ap (λ (x : BlockForm). read_as x (block_lighting (words b))) (sym form_told) ∙ by_form b e
 
-  pub read-lit : (l : Lighting) → length b ≡ 328 → read_as g (block_lighting (words b)) ≡ block_answer 0 (on (block_lighting (words b))) → l ≡ block_lighting (words (given b []))
+  pub read-lit : (l : Lighting) → length b ≡ 328 → read_as g (block_lighting (words b)) ≡ block_answer 0 (on (block_lighting (words b))) → l ≡ block_lighting (words (map (λ (n : ℕ). n) b))
       → block_answer 0 (on l) ≡ block_read b
   read-lit l e k p =
-      ap (λ (x : Lighting). block_answer 0 (on x)) (p ∙ ap (λ (x : List ℕ). block_lighting (words x)) (given-words b [] refl)) ∙ sym k ∙ read-dark e
+      ap (λ (x : Lighting). block_answer 0 (on x)) (p ∙ ap (λ (x : List ℕ). block_lighting (words x)) (word_values b)) ∙ sym k ∙ read-dark e
 
-  pub plain : is_plain g ≡ true → nan_free (words (given b [])) ≡ true
-  plain k = is_plain_lem (given b []) (ap is_plain (sym form ∙ told) ∙ k)
+  pub plain : is_plain g ≡ true → nan_free (words (map (λ (n : ℕ). n) b)) ≡ true
+  plain k = is_plain_lem (map (λ (n : ℕ). n) b) (ap is_plain (sym form ∙ told) ∙ k)

@@ -1,6 +1,5 @@
 // The head of a block: what it says of the whole lighting, its lights left out. The words come as words or as bytes.
-ghost use Rattle.std.specs.Prelude.{◌≡◌, true, ◌+◌, ◌≤◌, length};
-ghost use Rattle.sources.specs.Steps.{given};
+ghost use Rattle.std.specs.Prelude.{◌≡◌, true, ◌+◌, ◌≤◌, length, map};
 ghost use Rattle.block.specs.Block.{words, from, block_bump, block_shadow, block_lookup, block_optional_lookup, block_lighting_with};
 ghost use Rattle.block.specs.Steps.{nan_free};
 ghost use Rattle.block_reading.specs.Steps.{head_options, head_lookups};
@@ -8,7 +7,7 @@ ghost use Rattle.block_reading.specs.Steps.{head_options, head_lookups};
 use crate::light::plain_vector;
 use binary32::float_of;
 use lighting::{Bump, Light, Lighting, Lookup, Shadow, TableLookups};
-use sources::word;
+use sources::words::{Word, value_at};
 
 // The words before the lookups but the count.
 #[derive(Clone, Copy)]
@@ -52,80 +51,80 @@ fn shadow_of(n: u32) -> Option<Shadow>
 }
 
 // The lookup of the four words from `at` on: presence, input, absolute, scale.
-fn lookup_of(block: &[u32], bytes: &[u8], at: usize) -> Lookup
-    requires { (length (given block.now bytes.now) ≡ 328) × (at + 4 ≤ 328) }
-    ensures { result ≡ block_lookup (from (words (given block.now bytes.now)) at) }
+fn lookup_of<W: Word>(block: &[W], at: usize) -> Lookup
+    requires { (length block.now ≡ 328) × (at + 4 ≤ 328) }
+    ensures { result ≡ block_lookup (from (words (map W.value block.now)) at) }
 {
     Lookup {
-        input: word(block, bytes, at + 1),
-        absolute: word(block, bytes, at + 2) == 1,
-        scale: float_of(word(block, bytes, at + 3)),
+        input: value_at(block, at + 1),
+        absolute: value_at(block, at + 2) == 1,
+        scale: float_of(value_at(block, at + 3)),
     }
 }
 
-fn optional_lookup_of(block: &[u32], bytes: &[u8], at: usize) -> Option<Lookup>
-    requires { (length (given block.now bytes.now) ≡ 328) × (at + 4 ≤ 328) }
-    ensures { result ≡ block_optional_lookup (from (words (given block.now bytes.now)) at) }
+fn optional_lookup_of<W: Word>(block: &[W], at: usize) -> Option<Lookup>
+    requires { (length block.now ≡ 328) × (at + 4 ≤ 328) }
+    ensures { result ≡ block_optional_lookup (from (words (map W.value block.now)) at) }
 {
-    if word(block, bytes, at) == 1 {
-        Some(lookup_of(block, bytes, at))
+    if value_at(block, at) == 1 {
+        Some(lookup_of(block, at))
     } else {
         None
     }
 }
 
-fn options_of(block: &[u32], bytes: &[u8]) -> Options
-    requires { length (given block.now bytes.now) ≡ 328 }
-    ensures { result ≡ head_options (words (given block.now bytes.now)) }
+fn options_of<W: Word>(block: &[W]) -> Options
+    requires { length block.now ≡ 328 }
+    ensures { result ≡ head_options (words (map W.value block.now)) }
 {
-    let needs = word(block, bytes, 7);
+    let needs = value_at(block, 7);
     Options {
-        config: word(block, bytes, 0),
-        bump: bump_of(word(block, bytes, 2)),
-        shadow: shadow_of(word(block, bytes, 3)),
-        fresnel_primary: word(block, bytes, 4) == 1,
-        fresnel_secondary: word(block, bytes, 5) == 1,
-        clamp_highlights: word(block, bytes, 6) == 1,
+        config: value_at(block, 0),
+        bump: bump_of(value_at(block, 2)),
+        shadow: shadow_of(value_at(block, 3)),
+        fresnel_primary: value_at(block, 4) == 1,
+        fresnel_secondary: value_at(block, 5) == 1,
+        clamp_highlights: value_at(block, 6) == 1,
         needs_half: needs % 2 == 1,
         needs_view: needs / 2 % 2 == 1,
     }
 }
 
-fn lookups_of(block: &[u32], bytes: &[u8]) -> TableLookups
-    requires { length (given block.now bytes.now) ≡ 328 }
-    ensures { result ≡ head_lookups (words (given block.now bytes.now)) }
+fn lookups_of<W: Word>(block: &[W]) -> TableLookups
+    requires { length block.now ≡ 328 }
+    ensures { result ≡ head_lookups (words (map W.value block.now)) }
 {
     TableLookups {
-        distribution0: optional_lookup_of(block, bytes, 8),
-        distribution1: optional_lookup_of(block, bytes, 12),
-        fresnel: optional_lookup_of(block, bytes, 16),
-        reflect_red: optional_lookup_of(block, bytes, 20),
-        reflect_green: optional_lookup_of(block, bytes, 24),
-        reflect_blue: optional_lookup_of(block, bytes, 28),
-        spotlight: lookup_of(block, bytes, 32),
+        distribution0: optional_lookup_of(block, 8),
+        distribution1: optional_lookup_of(block, 12),
+        fresnel: optional_lookup_of(block, 16),
+        reflect_red: optional_lookup_of(block, 20),
+        reflect_green: optional_lookup_of(block, 24),
+        reflect_blue: optional_lookup_of(block, 28),
+        spotlight: lookup_of(block, 32),
     }
 }
 
 // How many lights are on.
-pub(crate) fn light_count(block: &[u32], bytes: &[u8]) -> usize
-    requires { length (given block.now bytes.now) ≡ 328 }
-    ensures { result ≡ words (given block.now bytes.now) 1 }
+pub(crate) fn light_count<W: Word>(block: &[W]) -> usize
+    requires { length block.now ≡ 328 }
+    ensures { result ≡ words (map W.value block.now) 1 }
 {
-    word(block, bytes, 1) as usize
+    value_at(block, 1) as usize
 }
 
 // The lighting of a block that isn't off, with these lights. The block shader reads them where it needs them, and has blank ones here.
 // Asks: what the check found, a block's length and, where `plain` is set, that no word is a NaN's pattern.
-pub fn lighting_with(block: &[u32], bytes: &[u8], plain: bool, lights: [Light; 8]) -> Lighting
-    requires { (length (given block.now bytes.now) ≡ 328) × (plain ≡ true → nan_free (words (given block.now bytes.now)) ≡ true) }
-    ensures { result ≡ block_lighting_with (words (given block.now bytes.now)) lights }
+pub fn lighting_with<W: Word>(block: &[W], plain: bool, lights: [Light; 8]) -> Lighting
+    requires { (length block.now ≡ 328) × (plain ≡ true → nan_free (words (map W.value block.now)) ≡ true) }
+    ensures { result ≡ block_lighting_with (words (map W.value block.now)) lights }
 {
-    let options = options_of(block, bytes);
-    let lookups = lookups_of(block, bytes);
+    let options = options_of(block);
+    let lookups = lookups_of(block);
     Lighting {
         lights,
-        light_count: light_count(block, bytes),
-        global_ambient: plain_vector(block, bytes, 36, plain),
+        light_count: light_count(block),
+        global_ambient: plain_vector(block, 36, plain),
         config: options.config,
         distribution0: lookups.distribution0,
         distribution1: lookups.distribution1,

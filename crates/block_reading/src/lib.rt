@@ -5,8 +5,7 @@
 pub mod head;
 pub mod light;
 
-ghost use Rattle.std.specs.Prelude.{◌≡◌, true, length};
-ghost use Rattle.sources.specs.Steps.{given};
+ghost use Rattle.std.specs.Prelude.{◌≡◌, true, length, map};
 ghost use Rattle.block.specs.Block.{words, block_lights, block_lighting, block_read, answer_of};
 ghost use Rattle.block.specs.Steps.{nan_free};
 ghost use Rattle.block_reading.specs.Steps.{is_lit, is_plain};
@@ -17,26 +16,27 @@ use block::BlockForm;
 use block_check::form;
 use lighting::{Light, Lighting, Slot, blank_light};
 use refusals::Refusal;
+use sources::words::Word;
 
 // The lights in their slots, blank beyond the count.
-fn lights_of(block: &[u32], bytes: &[u8], plain: bool) -> [Light; 8]
-    requires { (length (given block.now bytes.now) ≡ 328) × (plain ≡ true → nan_free (words (given block.now bytes.now)) ≡ true) }
-    ensures { result ≡ block_lights (words (given block.now bytes.now)) }
+fn lights_of<W: Word>(block: &[W], plain: bool) -> [Light; 8]
+    requires { (length block.now ≡ 328) × (plain ≡ true → nan_free (words (map W.value block.now)) ≡ true) }
+    ensures { result ≡ block_lights (words (map W.value block.now)) }
 {
     let mut lights = [blank_light(); 8];
-    for slot in 0..light_count(block, bytes).min(8) {
-        lights[slot] = light_of(block, bytes, Slot(slot), plain);
+    for slot in 0..light_count(block).min(8) {
+        lights[slot] = light_of(block, Slot(slot), plain);
     }
     lights
 }
 
 // The lighting of a block that isn't off.
 // Asks: what the check found, a block's length and, where `plain` is set, that no word is a NaN's pattern.
-pub fn lighting_of(block: &[u32], bytes: &[u8], plain: bool) -> Lighting
-    requires { (length (given block.now bytes.now) ≡ 328) × (plain ≡ true → nan_free (words (given block.now bytes.now)) ≡ true) }
-    ensures { result ≡ block_lighting (words (given block.now bytes.now)) }
+pub fn lighting_of<W: Word>(block: &[W], plain: bool) -> Lighting
+    requires { (length block.now ≡ 328) × (plain ≡ true → nan_free (words (map W.value block.now)) ≡ true) }
+    ensures { result ≡ block_lighting (words (map W.value block.now)) }
 {
-    lighting_with(block, bytes, plain, lights_of(block, bytes, plain))
+    lighting_with(block, plain, lights_of(block, plain))
 }
 
 // Whether a block of this form reads as a lighting.
@@ -62,11 +62,10 @@ pub fn read_block(block: &[u32]) -> Result<Option<Lighting>, Refusal>
     if block.len() != 328 {
         return Err(Refusal::WrongBlock);
     }
-    let none = [0u8; 0];
-    match form(block, &none) {
+    match form(block) {
         BlockForm::Off => Ok(None),
         BlockForm::NotWellFormed => Err(Refusal::NotWellFormed),
-        BlockForm::NanFree => Ok(Some(lighting_of(block, &none, true))),
-        BlockForm::WithNan => Ok(Some(lighting_of(block, &none, false))),
+        BlockForm::NanFree => Ok(Some(lighting_of(block, true))),
+        BlockForm::WithNan => Ok(Some(lighting_of(block, false))),
     }
 }

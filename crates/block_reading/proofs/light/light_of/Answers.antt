@@ -1,29 +1,26 @@
 -- `light::light_of` meets its contract: each part is what the call that makes it ensures.
+use Rattle.std.proofs.Common.{map}
 use Prim.Native.Nat.{ℕ}
 use native.Mathlib.Omega.{arith}
 use mathlib.Core.Path.{ap, ◌∙◌}
-use Rattle.sources.specs.Steps.{given}
 use Rattle.block.specs.Block.{words, from, block_light}
 use Rattle.block_reading.proofs.light.LightMade.{vector_from, vector_first, numbered, light_made}
 use Rattle.block_reading.proofs.light.light_of.Goals as goal
 
 pub distance_of-requires : goal.distance_of-requires
-distance_of-requires c =
-    let s = c.before.before.before.before.before.before.before.before in
-    (s.requires.0, omega (arith, s.slot_at-at.ensures, s.requires.1))
+distance_of-requires g c =
+    (c.requires.0, omega (arith, c.slot_at-at.ensures, c.requires.1))
 
 pub overflow_add-at-8 : goal.overflow_add-at-8
-overflow_add-at-8 c = let s = c.before.before.before.before.before.before.before.before.before in omega (arith, s.slot_at-at.ensures, s.requires.1)
+overflow_add-at-8 g c = omega (arith, c.slot_at-at.ensures, c.requires.1)
 
-pub word-requires : goal.word-requires
-word-requires c = let s = c.before.before.before.before.before.before.before.before.before in omega (arith, s.slot_at-at.ensures, s.requires.1)
+pub value_at-requires : goal.value_at-requires
+value_at-requires g c = omega (arith, c.slot_at-at.ensures, c.requires.1)
 
 pub returns : goal.returns
-returns c =
-    let s = c.before.before.before.before.before.before.before.before.before.before.before.before.before.before in
-    let w = words (given s.args.block.now s.args.bytes.now) in
-    let first = c.before.before.before.before.before.before.before.before.before.before.before in
-    let at = first.slot_at-at.result in
+returns g c =
+    let w = words (map g.W.Word.value c.args.block.now) in
+    let at = c.slot_at-at.result in
     light_made (from w at) _ _ _ _ _ _ _ _ _ _
     (c.plain_vector.ensures ∙ vector_first w at)
     (c.plain_vector-2.ensures ∙ vector_from w at 4)
@@ -33,6 +30,6 @@ returns c =
     (c.plain_vector-6.ensures ∙ vector_from w at 20)
     (c.plain_vector-7.ensures ∙ vector_from w at 24)
     c.distance_of.ensures
-    (c.light_number.ensures ∙ ap numbered c.word.ensures)
-    c.word-flags.ensures
-    ∙ ap (λ (i : ℕ). block_light (from w i)) first.slot_at-at.ensures
+    (c.light_number.ensures ∙ ap numbered c.value_at.ensures)
+    c.value_at-flags.ensures
+    ∙ ap (λ (i : ℕ). block_light (from w i)) c.slot_at-at.ensures

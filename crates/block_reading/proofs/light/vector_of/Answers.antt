@@ -4,4 +4,4 @@ use Rattle.block_reading.proofs.light.vector_of.Goals as goal
 
 pub returns : goal.returns
 unfolding block_vector
-returns c = cc
+returns g c = cc
