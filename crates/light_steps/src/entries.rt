@@ -1,22 +1,22 @@
 // What the tables give where a light reads them. They come as words or as bytes, and only the fetching of an entry knows which.
-ghost use Rattle.std.specs.Prelude.{◌≡◌, length};
-ghost use Rattle.sources.specs.Steps.{given};
+ghost use Rattle.std.specs.Prelude.{◌≡◌, length, map};
 ghost use Rattle.light_steps.specs.Steps.{at_place, read_value, read_all};
 
 use crate::types::{EntryValues, Reading, Readings};
 use binary32::Place;
+use sources::words::{Word, value_at};
 
 // What a table gives at a place.
 #[tactic(auto, unfolding(tables::specs::Tables::table_lookup))]
-fn fetch(tables: &[u32], bytes: &[u8], reading: Reading) -> f32
-    requires { length (given tables.now bytes.now) ≡ 12288 }
-    ensures { result ≡ at_place (given tables.now bytes.now) reading.table reading.place }
+fn fetch<W: Word>(tables: &[W], reading: Reading) -> f32
+    requires { length tables.now ≡ 12288 }
+    ensures { result ≡ at_place (map W.value tables.now) reading.table reading.place }
 {
     let Place { entry, delta } = reading.place;
     let at = 2 * (256 * reading.table as usize + entry as usize);
     if at < 12288 {
-        let value = sources::word(tables, bytes, at);
-        let step = sources::word(tables, bytes, at + 1);
+        let value = value_at(tables, at);
+        let step = value_at(tables, at + 1);
         tables::entries::interpolated(value, step, delta)
     } else {
         tables::entries::interpolated(0, 0, delta)
@@ -25,35 +25,30 @@ fn fetch(tables: &[u32], bytes: &[u8], reading: Reading) -> f32
 
 // Asks: tables of 12,288 words, which the caller has counted once for all its reads.
 #[tactic(auto, unfolding(crate::specs::Steps::read_value))]
-pub(crate) fn read(tables: &[u32], bytes: &[u8], reading: Option<Reading>) -> f32
-    requires { length (given tables.now bytes.now) ≡ 12288 }
-    ensures { result ≡ read_value (given tables.now bytes.now) reading }
+pub(crate) fn read<W: Word>(tables: &[W], reading: Option<Reading>) -> f32
+    requires { length tables.now ≡ 12288 }
+    ensures { result ≡ read_value (map W.value tables.now) reading }
 {
     match reading {
         None => 1.0,
-        Some(reading) => fetch(tables, bytes, reading),
+        Some(reading) => fetch(tables, reading),
     }
 }
 
 // Asks: as `read`.
 #[tactic(auto, unfolding(crate::specs::Steps::read_all))]
-pub(crate) fn read_all(
-    tables: &[u32],
-    bytes: &[u8],
-    readings: Readings,
-    distance: f32,
-) -> EntryValues
-    requires { length (given tables.now bytes.now) ≡ 12288 }
-    ensures { result ≡ read_all (given tables.now bytes.now) readings distance }
+pub(crate) fn read_all<W: Word>(tables: &[W], readings: Readings, distance: f32) -> EntryValues
+    requires { length tables.now ≡ 12288 }
+    ensures { result ≡ read_all (map W.value tables.now) readings distance }
 {
     EntryValues {
         distance,
-        spot: read(tables, bytes, readings.spot),
-        distribution0: read(tables, bytes, readings.distribution0),
-        red: read(tables, bytes, readings.red),
-        green: read(tables, bytes, readings.green),
-        blue: read(tables, bytes, readings.blue),
-        distribution1: read(tables, bytes, readings.distribution1),
-        fresnel: read(tables, bytes, readings.fresnel),
+        spot: read(tables, readings.spot),
+        distribution0: read(tables, readings.distribution0),
+        red: read(tables, readings.red),
+        green: read(tables, readings.green),
+        blue: read(tables, readings.blue),
+        distribution1: read(tables, readings.distribution1),
+        fresnel: read(tables, readings.fresnel),
     }
 }

@@ -14,26 +14,26 @@ mod terms;
 pub mod types;
 mod values;
 
-ghost use Rattle.std.specs.Prelude.{◌≡◌, ◌<◌, length};
+ghost use Rattle.std.specs.Prelude.{◌≡◌, ◌<◌, length, map};
 ghost use Rattle.sources.specs.Steps.{given};
 ghost use Rattle.light_steps.specs.Steps.{distance_reading_by, read_value, distance_reading, values_of, unread_directions, step_of};
 
 use crate::types::{LightingLookups, Settings, Sums, Values};
 use lighting::Light;
+use sources::words::Word;
 use surface::{Directions, Frame};
 
 // What a light whose ray has this norm reads from its distance table.
-fn distance_of(tables: &[u32], bytes: &[u8], light: Light, norm: f32) -> f32
-    requires { length (given tables.now bytes.now) ≡ 12288 }
-    ensures { result ≡ read_value (given tables.now bytes.now) (distance_reading_by light.distance light.number norm) }
+fn distance_of<W: Word>(tables: &[W], light: Light, norm: f32) -> f32
+    requires { length tables.now ≡ 12288 }
+    ensures { result ≡ read_value (map W.value tables.now) (distance_reading_by light.distance light.number norm) }
 {
-    entries::read(tables, bytes, distance::distance_reading(light, norm))
+    entries::read(tables, distance::distance_reading(light, norm))
 }
 
 // What a light reads from the tables, given its distance.
-fn values_of(
-    tables: &[u32],
-    bytes: &[u8],
+fn values_of<W: Word>(
+    tables: &[W],
     lookups: LightingLookups,
     frame: Frame,
     directions: Directions,
@@ -41,11 +41,11 @@ fn values_of(
     light: Light,
     last: bool,
 ) -> Values
-    requires { (length (given tables.now bytes.now) ≡ 12288) × (light.number.0 < 8) × (distance ≡ read_value (given tables.now bytes.now) (distance_reading light frame.view)) }
-    ensures { result ≡ values_of (given tables.now bytes.now) lookups frame directions light last }
+    requires { (length tables.now ≡ 12288) × (light.number.0 < 8) × (distance ≡ read_value (map W.value tables.now) (distance_reading light frame.view)) }
+    ensures { result ≡ values_of (map W.value tables.now) lookups frame directions light last }
 {
     let readings = readings::readings_of(lookups, frame, directions, light, last);
-    let read = entries::read_all(tables, bytes, readings, distance);
+    let read = entries::read_all(tables, readings, distance);
     values::values_from(lookups, light, read, last)
 }
 
@@ -67,9 +67,8 @@ fn unread_directions(light: Light, vector: [f32; 3], frame: Frame, needed: bool)
 
 // The sums with one light's contribution. `last` is the last slot lit, where fresnel is applied if there is its lookup.
 // Asks: tables of 12,288 words and a light number below 8, which the caller has looked at once for all its lights and fragments.
-pub fn step(
-    tables: &[u32],
-    bytes: &[u8],
+pub fn step<W: Word>(
+    tables: &[W],
     lookups: LightingLookups,
     frame: Frame,
     settings: Settings,
@@ -77,17 +76,15 @@ pub fn step(
     light: Light,
     sums: Sums,
 ) -> Sums
-    requires { (length (given tables.now bytes.now) ≡ 12288) × (light.number.0 < 8) }
-    ensures { result ≡ step_of (given tables.now bytes.now) lookups frame settings last light sums }
+    requires { (length tables.now ≡ 12288) × (light.number.0 < 8) }
+    ensures { result ≡ step_of (map W.value tables.now) lookups frame settings last light sums }
 {
     let ray = surface::light::ray_to(light, frame.view);
-    let distance = distance_of(tables, bytes, light, ray.norm);
+    let distance = distance_of(tables, light, ray.norm);
     if values::reads_tables(lookups, light) {
         let directions = surface::light::directions_of(ray.vector, frame, lookups.needs_half);
         let applied = values::applies_fresnel(lookups, last);
-        let values = values_of(
-            tables, bytes, lookups, frame, directions, distance, light, last,
-        );
+        let values = values_of(tables, lookups, frame, directions, distance, light, last);
         contribution::with_values(
             sums,
             light,
