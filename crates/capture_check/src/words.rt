@@ -3,16 +3,17 @@ ghost use Rattle.std.specs.Prelude.{◌≡◌, ◌*◌, ◌≤◌, length};
 ghost use Rattle.sources.specs.Sources.{words_of};
 ghost use Rattle.printing.specs.Steps.{out as out_at, puts};
 
+use sources::words::{value_at, words_of};
+
 // The input's words into the front of `words`; how many there are.
 // Asks: room for them; the caller lends the words of the longest input, whose size was looked at.
 pub fn to_words(input: &[u8], words: &mut [u32]) -> usize
     requires { length input.now ≤ 4 * length words.old }
     ensures { (out_at words.new result ≡ puts (out_at words.old 0) (words_of input.now)) × (result ≤ length words.new) }
 {
-    let none = [0u32; 0];
-    let n = sources::count(&none, input);
-    for i in 0..n {
-        words[i] = sources::word(&none, input, i);
+    let from = words_of(input);
+    for i in 0..from.len() {
+        words[i] = value_at(from, i);
     }
-    n
+    from.len()
 }
