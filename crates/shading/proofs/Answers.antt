@@ -1,7 +1,6 @@
 -- The answers of `shade`. Each follows from the tests that led to it. Assumes nothing.
-use Rattle.std.proofs.Common.{◌≡◌, ℕ, ◌+◌, true, false, List, [], ◌++◌, length, take, drop, refl, ap, ◌∙◌, append-nil, arith, drop_of_length-le, eq-eqb, ne_eqb}
-use Rattle.sources.specs.Steps.{given}
-use Rattle.sources.specs.SourcesLaws.{given-words}
+use Rattle.std.proofs.Common.{◌≡◌, ℕ, ◌+◌, true, false, List, ◌++◌, map, length, take, drop, ap, ◌∙◌, append-nil, arith, drop_of_length-le, eq-eqb, ne_eqb}
+use Rattle.sources.proofs.WordsLaws.{word_values}
 use lib.Ieee.{Float}
 use Rattle.refusals.specs.Refusals.{tables_refusal, answer_refusal}
 use Rattle.lighting.specs.declared.Lighting.{Lighting}
@@ -32,16 +31,12 @@ module _ (l : Lighting) (tables : List ℕ) (quaternion view : List Float) (texe
   unfolding shades shade_refusal tables_refusal answer_refusal lighting_refusal
   done k e f a p = simp (eq-eqb (length tables) 12288 e, eq-eqb (length answer) 8 f, a, p, shade_law)
 
--- the words alone are given, and there are as many of them
-pub counted : (tables : List ℕ) → length tables ≡ 12288 → length (given tables []) ≡ 12288
-counted tables h = ap length (given-words tables [] refl) ∙ h
-
 -- eight channels in eight words are the answer
 pub eight : (l : Lighting) (tables : List ℕ) (quaternion view : List Float) (texels : List (List Float)) (answer k written : List ℕ)
     → length tables ≡ 12288
     → length answer ≡ 8
     → accepted l ≡ true
-    → k ≡ shade_of l (given tables []) quaternion view texels
+    → k ≡ shade_of l (map (λ (n : ℕ). n) tables) quaternion view texels
     → written ≡ take 0 answer ++ (k ++ drop (0 + 8) answer)
     → shaded 0 written ≡ shades l tables quaternion view texels answer
 eight l tables quaternion view texels answer k written e f a p w =
@@ -50,4 +45,4 @@ eight l tables quaternion view texels answer k written e f a p w =
     ∙ ap (λ (r : List ℕ). k ++ r) (drop_of_length-le answer {i = 0 + 8} (omega arith))
     ∙ append-nil k
     ∙ p
-    ∙ ap (λ (t : List ℕ). shade_of l t quaternion view texels) (given-words tables [] refl))
+    ∙ ap (λ (t : List ℕ). shade_of l t quaternion view texels) (word_values tables))

@@ -6,64 +6,49 @@ mod channels;
 pub mod parts;
 pub mod sums;
 
-ghost use Rattle.std.specs.Prelude.{◌≡◌, true, length};
+ghost use Rattle.std.specs.Prelude.{◌≡◌, true, length, map};
 ghost use Rattle.refusals.specs.Refusals.{outcome_number};
 ghost use Rattle.lighting.specs.Lighting.{in_range};
 ghost use Rattle.shading.specs.Shade.{shaded, shades};
-ghost use Rattle.sources.specs.Steps.{given};
 ghost use Rattle.shading.specs.Steps.{shade_by, shade_of};
 
 use lighting::Lighting;
 use refusals::Refusal;
+use sources::words::Word;
 use surface::Frame;
 
 // The eight channels, 0 to 255, in the printed order, from the frame and the shadow.
 // Asks: tables of 12,288 words and a lighting in range, which the caller has looked at before it makes the frame.
-pub fn shade_by(
-    tables: &[u32],
-    bytes: &[u8],
-    l: Lighting,
-    frame: Frame,
-    shadow: [f32; 4],
-) -> [u32; 8]
-    requires { (length (given tables.now bytes.now) ≡ 12288) × (in_range l ≡ true) }
-    ensures { result ≡ shade_by (given tables.now bytes.now) l frame shadow }
+pub fn shade_by<W: Word>(tables: &[W], l: Lighting, frame: Frame, shadow: [f32; 4]) -> [u32; 8]
+    requires { (length tables.now ≡ 12288) × (in_range l ≡ true) }
+    ensures { result ≡ shade_by (map W.value tables.now) l frame shadow }
 {
     let lookups = parts::lookups_of(l);
     let settings = parts::settings_of(l, shadow);
-    let sums = sums::sum_lights(
-        tables,
-        bytes,
-        lookups,
-        frame,
-        settings,
-        l.lights,
-        l.light_count,
-    );
+    let sums = sums::sum_lights(tables, lookups, frame, settings, l.lights, l.light_count);
     parts::finished(l, sums, shadow)
 }
 
 // From the quaternion, the view and the texels.
 #[tactic(auto, unfolding(crate::specs::Steps::shade_of))]
-fn shade_in_range(
+fn shade_in_range<W: Word>(
     l: Lighting,
-    tables: &[u32],
-    bytes: &[u8],
+    tables: &[W],
     quaternion: [f32; 4],
     view: [f32; 3],
     texels: [[f32; 4]; 4],
 ) -> [u32; 8]
-    requires { (length (given tables.now bytes.now) ≡ 12288) × (in_range l ≡ true) }
-    ensures { result ≡ shade_of l (given tables.now bytes.now) quaternion view texels }
+    requires { (length tables.now ≡ 12288) × (in_range l ≡ true) }
+    ensures { result ≡ shade_of l (map W.value tables.now) quaternion view texels }
 {
     let frame = parts::frame_of(l, quaternion, view, texels);
     let shadow = parts::shadow_of(l, texels);
-    shade_by(tables, bytes, l, frame, shadow)
+    shade_by(tables, l, frame, shadow)
 }
 
 // The eight channels of a fragment, 0 to 255, in the printed order, or a refusal and the answer as it
 // was.
-#[tactic(auto, using(crate::proofs::Answers::wrong_tables, crate::proofs::Answers::wrong_answer, crate::proofs::Answers::refused, crate::proofs::Answers::counted, crate::proofs::Answers::eight, block::proofs::AcceptedLaws::accepted_range))]
+#[tactic(auto, using(crate::proofs::Answers::wrong_tables, crate::proofs::Answers::wrong_answer, crate::proofs::Answers::refused, crate::proofs::Answers::eight, block::proofs::AcceptedLaws::accepted_range))]
 pub fn shade(
     lighting: Lighting,
     tables: &[u32],
@@ -83,11 +68,10 @@ pub fn shade(
     if !block::accepted::acceptable(lighting) {
         return Err(Refusal::NotWellFormed);
     }
-    let none = [0u8; 0];
     answer_words::put(
         answer,
         0,
-        shade_in_range(lighting, tables, &none, quaternion, view, texels),
+        shade_in_range(lighting, tables, quaternion, view, texels),
     );
     Ok(())
 }

@@ -1,10 +1,10 @@
 // The sums of a fragment, light by light.
-ghost use Rattle.std.specs.Prelude.{◌≡◌, ◌+◌, ◌<◌, ◌≤◌, length, ◌==◌};
+ghost use Rattle.std.specs.Prelude.{◌≡◌, ◌+◌, ◌<◌, ◌≤◌, length, ◌==◌, map};
 ghost use Rattle.shading.specs.Steps.{Numbered, sums_by};
-ghost use Rattle.sources.specs.Steps.{given};
 
 use light_steps::types::{LightingLookups, Settings, Sums};
 use lighting::{Light, Slot};
+use sources::words::Word;
 use surface::Frame;
 
 // Only the last slot lit applies fresnel.
@@ -17,17 +17,16 @@ pub fn is_last(slot: Slot, count: usize) -> bool
 }
 
 #[tactic(auto, unfolding(crate::specs::Steps::sums_by))]
-pub(crate) fn sum_lights(
-    tables: &[u32],
-    bytes: &[u8],
+pub(crate) fn sum_lights<W: Word>(
+    tables: &[W],
     lookups: LightingLookups,
     frame: Frame,
     settings: Settings,
     lights: [Light; 8],
     count: usize,
 ) -> Sums
-    requires { (length (given tables.now bytes.now) ≡ 12288) × (count ≤ 8) × Numbered lights count }
-    ensures { result ≡ sums_by (given tables.now bytes.now) lookups frame settings lights count count }
+    requires { (length tables.now ≡ 12288) × (count ≤ 8) × Numbered lights count }
+    ensures { result ≡ sums_by (map W.value tables.now) lookups frame settings lights count count }
 {
     let mut sums = Sums {
         diffuse: [0.0, 0.0, 0.0, 1.0],
@@ -36,7 +35,7 @@ pub(crate) fn sum_lights(
     for slot in 0..count {
         let last = is_last(Slot(slot), count);
         let light = lights[slot];
-        sums = light_steps::step(tables, bytes, lookups, frame, settings, last, light, sums);
+        sums = light_steps::step(tables, lookups, frame, settings, last, light, sums);
     }
     sums
 }

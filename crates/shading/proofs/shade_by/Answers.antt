@@ -12,10 +12,9 @@ unfolding light_at
 numbered l h k n = let m : (light_at l (slot_of k)).number.0 ≤ 7 = range_number l h k n in omega arith
 
 pub sum_lights-sums-requires : goal.sum_lights-sums-requires
-sum_lights-sums-requires c =
-    let s = c.before.before.before.before.before in
-    (s.requires.0, range_count s.args.l s.requires.1, numbered s.args.l s.requires.1)
+sum_lights-sums-requires g c =
+    (c.requires.0, range_count c.args.l c.requires.1, numbered c.args.l c.requires.1)
 
 pub returns : goal.returns
 unfolding shade_by
-returns c = simp (c.finished.ensures, c.sum_lights-sums.ensures, c.settings_of-settings.ensures, c.lookups_of-lookups.ensures)
+returns g c = simp (c.finished.ensures, c.sum_lights-sums.ensures, c.settings_of-settings.ensures, c.lookups_of-lookups.ensures)
