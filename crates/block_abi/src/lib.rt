@@ -28,8 +28,7 @@ pub fn block_form(words: &[u32]) -> u32
     if words.len() != 328 {
         return 6;
     }
-    let none = [0u8; 0];
-    match block_check::form(words, &none) {
+    match block_check::form(words) {
         BlockForm::Off => 100,
         BlockForm::NotWellFormed => 7,
         BlockForm::NanFree => 0,

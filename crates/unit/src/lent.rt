@@ -52,8 +52,7 @@ fn is_formed(block: &[u32]) -> bool
     requires { length block.now ≡ 328 }
     ensures { result ≡ formed block.now }
 {
-    let none = [0u8; 0];
-    !matches!(block_check::form(block, &none), BlockForm::NotWellFormed)
+    !matches!(block_check::form(block), BlockForm::NotWellFormed)
 }
 
 // The block of a file's lighting, all zero where it is off, and whether it is on.

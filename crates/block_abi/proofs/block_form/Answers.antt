@@ -1,12 +1,11 @@
 -- `block_abi::block_form` meets its contract. A block of another length is told by its length, and any other by the form that the check ensures.
 use Prim.Native.Nat.{ℕ}
 use mathlib.Core.Path.{◌≡◌, refl, ap, ◌∙◌}
-use mathlib.Core.List.{List, []}
+use mathlib.Core.List.{List, map}
 use lib.ListN.{length}
 use borrow.Author.Tests.{eq-eqb, ne_eqb}
 use Rattle.refusals.specs.Refusals.{block_refusal}
-use Rattle.sources.specs.Steps.{given}
-use Rattle.sources.specs.SourcesLaws.{given-words}
+use Rattle.sources.proofs.WordsLaws.{word_values}
 use Rattle.block.specs.declared.BlockForm.{BlockForm}
 use Rattle.block.specs.Steps.{block_form}
 use Rattle.block_abi.specs.FormNumber.{number_of_form, form_number}
@@ -17,9 +16,9 @@ unfolding block_refusal
 unsized b n = rw (ne_eqb (length b) 328 n) refl
 
 -- f is the form that was found, k the case that it is
-sized : (b : List ℕ) (f k : BlockForm) → length b ≡ 328 → f ≡ block_form (given b []) → f ≡ k → number_of_form k ≡ form_number b
+sized : (b : List ℕ) (f k : BlockForm) → length b ≡ 328 → f ≡ block_form (map (λ (n : ℕ). n) b) → f ≡ k → number_of_form k ≡ form_number b
 unfolding block_refusal
-sized b f k e g h = let p : f ≡ block_form b = g ∙ ap block_form (given-words b [] refl) in rw (eq-eqb (length b) 328 e, ← p, h) refl
+sized b f k e g h = let p : f ≡ block_form b = g ∙ ap block_form (word_values b) in rw (eq-eqb (length b) 328 e, ← p, h) refl
 
 pub returns-then-words-ne328 : goal.returns-then-words-ne328
 returns-then-words-ne328 c = unsized c.args.words.now c.if-words-ne328.true
