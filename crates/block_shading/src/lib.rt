@@ -25,20 +25,19 @@ pub fn is_off(form: BlockForm) -> bool
 }
 
 // The first fragment's unit quaternion, where there is a fragment.
-#[tactic(auto, unfolding(sources::specs::Steps::given))]
+#[tactic(auto, using(sources::proofs::WordsLaws::word_values))]
 fn first_unit_quaternion(fragments: &[u32]) -> [f32; 4]
     ensures { 0 < length fragments.now / 23 → result ≡ unit_quaternion (quaternion_of fragments.now) }
 {
     if fragments.len() < 23 {
         [0.0, 0.0, 0.0, 1.0]
     } else {
-        let none = [0u8; 0];
-        slots::unit_quaternion_of(fragments, &none, 0)
+        slots::unit_quaternion_of(fragments, 0)
     }
 }
 
 // What the form of the block leaves: the channels of each fragment, or off or a refusal and the answers as they were.
-#[tactic(auto, unfolding(sources::specs::Steps::given, crate::specs::Steps::shaded_by_form))]
+#[tactic(auto, using(sources::proofs::WordsLaws::word_values), unfolding(crate::specs::Steps::shaded_by_form))]
 fn shade_by_form(
     block: &[u32],
     tables: &[u32],
@@ -48,17 +47,13 @@ fn shade_by_form(
     requires { (length block.now ≡ 328) × (length tables.now ≡ 12288) × (length answers.old ≡ 8 * (length fragments.now / 23)) }
     ensures { shaded (switch_number result) answers.new ≡ shaded_by_form block.now tables.now fragments.now answers.old }
 {
-    let none = [0u8; 0];
     let first = first_unit_quaternion(fragments);
-    let form = block_check::form(block, &none);
+    let form = block_check::form(block);
     if is_lit(form) {
         slots::shade_each(
             block,
-            &none,
             tables,
-            &none,
             fragments,
-            &none,
             fragments.len() / 23,
             first,
             is_plain(form),
