@@ -34,8 +34,7 @@ pub fn print_fragments(
     if tables.len() != 12288 {
         return print_all_unlit(Some(Refusal::WrongTables), fragments, out, at);
     }
-    let none = [0u8; 0];
-    let form = block_check::form(block, &none);
+    let form = block_check::form(block);
     if is_lit(form) {
         return print_all_lit(block, is_plain(form), tables, fragments, out, at);
     }

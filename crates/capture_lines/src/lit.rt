@@ -22,11 +22,8 @@ fn print_lit(
     ensures { (out_at out.new result ≡ puts (out_at out.old at) (shown_line (lit_shades (block_lighting (words block.now)) tables.now fragment.now))) × (result ≤ at + 32) }
 {
     let mut k = [0u32; 8];
-    let none = [0u8; 0];
-    let unit = block_shading::slots::unit_quaternion_of(fragment, &none, 0);
-    block_shading::slots::shade_each(
-        block, &none, tables, &none, fragment, &none, 1, unit, plain, &mut k,
-    );
+    let unit = block_shading::slots::unit_quaternion_of(fragment, 0);
+    block_shading::slots::shade_each(block, tables, fragment, 1, unit, plain, &mut k);
     put_line(out, at, k)
 }
 

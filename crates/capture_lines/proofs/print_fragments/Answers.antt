@@ -6,7 +6,7 @@ use mathlib.Core.Path.{◌≡◌, sym, ap, ◌∙◌}
 use mathlib.Core.Bool.{true, false}
 use mathlib.Core.List.{List}
 use lib.ListN.{length}
-use Rattle.sources.specs.Steps.{given}
+use Rattle.sources.proofs.WordsLaws.{word_values}
 use Rattle.block.specs.Block.{words, block_lighting}
 use Rattle.block.specs.Steps.{block_form}
 use Rattle.block_reading.specs.Steps.{is_lit, is_plain}
@@ -40,10 +40,9 @@ returns-then-tables-ne12288 c =
     )
 
 pub print_all_lit-requires : goal.print_all_lit-requires
-unfolding given
 print_all_lit-requires c =
     let b = c.args.block.now in
-    let f = c.form-form.ensures in
+    let f = c.form-form.ensures ∙ ap block_form (word_values b) in
     let l : is_lit (block_form b) ≡ true = sym (ap is_lit f) ∙ sym c.is_lit.ensures ∙ c.if-is_lit.true in
     record {
       block_len = (c.if-block-ne328.false, (is_lit_lem b l).formed, λ p. is_plain_lem b (sym (ap is_plain f) ∙ sym c.is_plain.ensures ∙ p));
@@ -51,26 +50,24 @@ print_all_lit-requires c =
     }
 
 pub returns-then-is_lit : goal.returns-then-is_lit
-unfolding given
 returns-then-is_lit c =
     let a = c.args in
     let b = a.block.now in
     let t = a.tables.now in
     let ws = a.fragments.now in
-    let l : is_lit (block_form b) ≡ true = sym (ap is_lit c.form-form.ensures) ∙ sym c.is_lit.ensures ∙ c.if-is_lit.true in
+    let l : is_lit (block_form b) ≡ true = sym (ap is_lit (c.form-form.ensures ∙ ap block_form (word_values b))) ∙ sym c.is_lit.ensures ∙ c.if-is_lit.true in
     let p = c.print_all_lit in (
       rw (lines_alike (block_shades b t) (lit_shades (block_lighting (words b)) t) (λ (q : List ℕ) (hq : length q ≡ 23). lit_shades_lem b t q c.if-block-ne328.false c.if-tables-ne12288.false hq l) (length ws / 23) ws (omega arith)) p.ensures.0,
       p.ensures.1,
     )
 
 pub returns-then-is_off : goal.returns-then-is_off
-unfolding given
 returns-then-is_off c =
     let a = c.args in
     let b = a.block.now in
     let t = a.tables.now in
     let ws = a.fragments.now in
-    let f = c.form-form.ensures in
+    let f = c.form-form.ensures ∙ ap block_form (word_values b) in
     let l : is_lit (block_form b) ≡ false = sym (ap is_lit f) ∙ sym c.is_lit.ensures ∙ c.if-is_lit.false in
     let o : is_off (block_form b) ≡ true = sym (ap is_off f) ∙ sym c.is_off.ensures ∙ c.if-is_off.true in
     let p = c.print_all_unlit-then-is_off in (
@@ -79,13 +76,12 @@ returns-then-is_off c =
     )
 
 pub returns : goal.returns
-unfolding given
 returns c =
     let a = c.args in
     let b = a.block.now in
     let t = a.tables.now in
     let ws = a.fragments.now in
-    let f = c.form-form.ensures in
+    let f = c.form-form.ensures ∙ ap block_form (word_values b) in
     let l : is_lit (block_form b) ≡ false = sym (ap is_lit f) ∙ sym c.is_lit.ensures ∙ c.if-is_lit.false in
     let o : is_off (block_form b) ≡ false = sym (ap is_off f) ∙ sym c.is_off.ensures ∙ c.if-is_off.false in
     let p = c.print_all_unlit-2 in (
