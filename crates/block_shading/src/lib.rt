@@ -2,7 +2,7 @@
 // shading itself, a light at a time.
 #![tactic(auto)]
 
-mod fragments;
+pub mod fragments;
 pub mod slots;
 
 ghost use Rattle.std.specs.Prelude.{◌≡◌, ◌*◌, ◌/◌, ◌<◌, length};

@@ -1,8 +1,6 @@
 // Document 01's calls on the structs under plain names, for the host's comparisons with the Rust module: a library for tests alone. A lighting and a cache by value
-// can't cross the C boundary, so each call here makes them, passes them on and gives words. `fragments` makes the arrays that shading takes.
+// can't cross the C boundary, so each call here makes them, passes them on and gives words.
 #![tactic(auto)]
-
-mod fragments;
 
 ghost use Rattle.std.specs.Prelude.{◌≡◌, length};
 ghost use Rattle.shading.specs.Shade.{shaded};
@@ -12,6 +10,7 @@ ghost use Rattle.unit.specs.Unit.{fresh_cache, handed};
 ghost use Rattle.structs_abi.specs.Composed.{shades_reading, packs_if, shade_file, shade_reading, cached_reads};
 ghost use Rattle.structs_abi.specs.HandOvers.{next, copied as copied_as, copy_of, handed_over, hand_overs};
 
+use block_shading::fragments;
 use lighting::Lighting;
 use refusals::{Refusal, Switch};
 use unit::HandedOver;
@@ -28,9 +27,9 @@ fn shade_reading(
 {
     match reading {
         Some(lighting) => {
-            let quaternion = fragments::quaternion_of(fragment);
-            let view = fragments::view_of(fragment);
-            let texels = fragments::texels_of(fragment);
+            let quaternion = fragments::quaternion_of(fragment, 0);
+            let view = fragments::view_of(fragment, 0);
+            let texels = fragments::texels_of(fragment, 0);
             refusals::outcome_number(shading::shade(
                 lighting, tables, quaternion, view, texels, answer,
             ))
