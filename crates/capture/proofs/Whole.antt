@@ -1,18 +1,11 @@
 -- What the parts of the call leave is what is printed: a refusal prints its line, and the text that was put from the start is the output's
 -- front. Assumes nothing.
-use Prim.Native.Nat.{ℕ, ◌≤◌, ◌<◌}
-use native.Mathlib.Omega.{arith}
-use mathlib.Core.Path.{◌≡◌, refl, sym, ap, ◌∙◌}
-use mathlib.Core.List.{List, ◌++◌}
-use mathlib.Core.Bool.{Bool, true, false, cond}
-use borrow.Author.Tests.{le-leb, lt-leb}
-use lib.ListN.{length, take, drop}
+use Rattle.std.proofs.Common.{ℕ, ◌≤◌, ◌<◌, ◌≡◌, refl, sym, ap, ◌∙◌, arith, List, ◌++◌, Bool, true, false, cond, length, take, drop, le-leb, Result, Err}
+use Rattle.std.proofs.lemmas.Bool.{lt-leb}
 use lib.Seq.{take-append_seam}
 use Rattle.refusals.specs.Refusals.{number_of, outcome_number, ◌else◌}
 use Rattle.refusals.specs.declared.Refusal.{Refusal}
 use Rattle.refusals.specs.declared.Refusal.TheVariants.{ShortFile, WrongTables, HighRegister, LastGeneration, WrongSaved, WrongBlock, NotWellFormed, BadCapture, WrongFragment}
-use Rattle.refusals.specs.declared.Outcome.{Outcome}
-use Rattle.refusals.specs.declared.Outcome.TheVariants.{Refused}
 use Rattle.sources.specs.Sources.{words_of}
 use Rattle.printing.specs.Steps.{out, puts}
 use Rattle.printing.specs.WritingLaws.{put_size, put_list, put_front}
@@ -45,7 +38,7 @@ number_refused BadCapture w = printed_refused 7 w
 number_refused WrongFragment w = printed_refused 8 w
 
 -- a refused outcome of the check
-module _ (w : List ℕ) (o : Outcome) (k : Refusal) (p : o ≡ Refused k) (e : outcome_number o ≡ capture_words_refusal w) where
+module _ (w : List ℕ) (o : Result (Unit {0}) Refusal) (k : Refusal) (p : o ≡ Err k) (e : outcome_number o ≡ capture_words_refusal w) where
   pub refused_number : number_of k ≡ capture_words_refusal w
   refused_number = ap outcome_number (sym p) ∙ e
 

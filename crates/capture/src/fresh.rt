@@ -7,27 +7,23 @@ ghost use Rattle.capture_calls.specs.Capture.{machine_prints, largest_output};
 
 use crate::bodies::run_bodies;
 use capture_body::Held;
-use capture_check::contents::wide;
 
 // A capture whose words were checked, on a fresh unit and a fresh copy; how many bytes it printed.
 pub(crate) fn run_fresh(words: &[u32], out: &mut [u8]) -> usize
     requires { (length words.now ≤ 16384) × (capture_words_refusal words.now ≡ 0) × (largest_output ≤ length out.old) }
     ensures { (out_at out.new result ≡ puts (out_at out.old 0) (machine_prints words.now (contents words.now) zero_machine)) × (result ≤ length out.new) }
 {
-    let count = wide(words[0]);
     let mut file = [0u32; 474];
     let mut tables = [0u32; 12288];
     let mut block = [0u32; 328];
     let mut copied = [0u32; 12288];
-    let cache = unit::fresh_cache();
     let held = Held {
         generation: 0,
-        cache,
+        cache: unit::fresh_cache(),
         age: 0,
     };
     let ran = run_bodies(
         words,
-        count,
         &mut file,
         &mut tables,
         &mut block,

@@ -16,7 +16,7 @@ use capture_check::check_words;
 use capture_check::contents::sized;
 use capture_check::words::to_words;
 use printing::put_refused;
-use refusals::{Outcome, Refusal};
+use refusals::Refusal;
 
 // The words of an input whose size is right: both refusals come before any body runs.
 fn run_words(words: &[u32], out: &mut [u8]) -> Answer
@@ -24,11 +24,10 @@ fn run_words(words: &[u32], out: &mut [u8]) -> Answer
     ensures result_value { number_by result ≡ capture_words_refusal words.now }
     ensures by_index { (n : ℕ) → out_at out.new (size_of n result) ≡ puts (out_at out.old 0) (printed_if (capture_words_refusal words.now) words.now) }
 {
-    let outcome = check_words(words);
-    match outcome {
-        Outcome::Done => Answer::Printed(run_fresh(words, out)),
-        Outcome::Refused(refusal) => {
-            let size = put_refused(out, 0, refusals::number(refusal));
+    match check_words(words) {
+        Ok(()) => Answer::Printed(run_fresh(words, out)),
+        Err(refusal) => {
+            let size = put_refused(out, 0, u32::from(refusal));
             Answer::Refused(refusal, size)
         }
     }
@@ -40,7 +39,7 @@ fn print_text(input: &[u8], room: &mut [u8]) -> Answer
     ensures { (n : ℕ) → captured_by result n room.new ≡ prints_into input.now room.old }
 {
     if !sized(input.len()) {
-        let size = put_refused(room, 0, 8);
+        let size = put_refused(room, 0, u32::from(Refusal::BadCapture));
         return Answer::Refused(Refusal::BadCapture, size);
     }
     let mut words = [0u32; 16384];

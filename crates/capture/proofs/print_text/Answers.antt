@@ -5,6 +5,7 @@ use native.Mathlib.Omega.{arith}
 use mathlib.Core.Path.{sym, ap, ◌∙◌}
 use mathlib.Core.List.{List}
 use lib.Seq.{length-take-le}
+use Rattle.printing.specs.Printing.{refused_line}
 use Rattle.printing.specs.Steps.{out, puts}
 use Rattle.capture_check.specs.Contents.{capture_words_refusal}
 use Rattle.capture_check.specs.ContentsLaws.{sized_most}
@@ -18,7 +19,7 @@ pub returns-then-not-sized : goal.returns-then-not-sized
 returns-then-not-sized c =
     let p = c.put_refused-size in
     let h = printed_bad c.args.input.now (sym c.sized.ensures ∙ c.if-not-sized.true) in
-    prints_into_lem c.args.input.now c.args.room.now _ (Refused BadCapture p.result) c.requires h.0 (λ n. p.ensures.0 ∙ ap (puts (out c.args.room.now 0)) h.1)
+    prints_into_lem c.args.input.now c.args.room.now _ (Refused BadCapture p.result) c.requires h.0 (λ n. p.ensures.0 ∙ ap (puts (out c.args.room.now 0)) (ap refused_line c.from.ensures ∙ h.1))
 
 pub to_words-n-requires : goal.to_words-n-requires
 to_words-n-requires c = sized_most _ (sym c.sized.ensures ∙ c.if-not-sized.false)

@@ -10,25 +10,25 @@ use Rattle.capture.proofs.run_words.Goals as goal
 
 pub run_fresh-requires : goal.run_fresh-requires
 run_fresh-requires c =
-    let e : capture_words_refusal c.args.words.now ≡ 0 = sym c.check_words-outcome.ensures ∙ ap outcome_number c.in-Done.is in
+    let e : capture_words_refusal c.args.words.now ≡ 0 = sym c.check_words.ensures ∙ ap outcome_number c.in-Ok.is in
     (c.requires.0, e, c.requires.1)
 
 pub put_refused-size-requires : goal.put_refused-size-requires
-put_refused-size-requires c = (omega (arith, c.requires), refused_small _ _ _ c.in-Refused.is c.check_words-outcome.ensures _ c.number.ensures)
+put_refused-size-requires c = (omega (arith, c.requires), refused_small _ _ _ c.in-Err.is c.check_words.ensures _ c.from.ensures)
 
-pub returns-in-Done : goal.returns-in-Done
+pub returns-in-Ok : goal.returns-in-Ok
 unfolding printed_if
-returns-in-Done c =
+returns-in-Ok c =
     let r = c.run_fresh in
-    let e : capture_words_refusal c.args.words.now ≡ 0 = sym c.check_words-outcome.ensures ∙ ap outcome_number c.in-Done.is in
+    let e : capture_words_refusal c.args.words.now ≡ 0 = sym c.check_words.ensures ∙ ap outcome_number c.in-Ok.is in
     record { result_value = sym e; by_index = λ n. rw e r.ensures.0 }
 
-pub returns-in-Refused : goal.returns-in-Refused
-returns-in-Refused c =
+pub returns-in-Err : goal.returns-in-Err
+returns-in-Err c =
     let p = c.put_refused-size in
-    let k = c.in-Refused.is in
-    let e = c.check_words-outcome.ensures in
+    let k = c.in-Err.is in
+    let e = c.check_words.ensures in
     record {
       result_value = refused_number c.args.words.now _ _ k e;
-      by_index = λ n. p.ensures.0 ∙ ap (puts (out c.args.out.now 0)) (refused_prints c.args.words.now _ _ k e _ c.number.ensures);
+      by_index = λ n. p.ensures.0 ∙ ap (puts (out c.args.out.now 0)) (refused_prints c.args.words.now _ _ k e _ c.from.ensures);
     }

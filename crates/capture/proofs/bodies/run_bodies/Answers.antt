@@ -1,71 +1,88 @@
--- `bodies::run_bodies` meets its contract. What the bodies from the place on leave and print, of the unit and copy so far, stays what was due;
--- each stands where the check found it, and its lines take no more bytes than its words allow for.
-use native.Mathlib.Omega.{arith}
-use mathlib.Core.Path.{refl}
-use lib.ListN.{length}
-use Rattle.lists.specs.Calls.{run}
+-- `bodies::run_bodies` meets its contract. What the bodies that are still to come do to the unit and the copy so far, and print from the place so far, stays what all of
+-- them do and print; and for the words that are left there is room.
+use Rattle.std.proofs.Common.{ℕ, ◌≡◌, ◌+◌, ◌≤◌, ◌<◌, true, List, [], ◌∷◌, length, get_or, drop, arith, refl, ap}
 use Rattle.printing.specs.Steps.{puts}
-use Rattle.sources.specs.PieceLaws.{part_is, part_length}
-use Rattle.capture_check.specs.ContentsLaws.{triples_all, triples_none, body_end, body_rest}
+use Rattle.lists.specs.Calls.{run}
+use Rattle.capture_check.specs.Contents.{body_count, contents_end, gapless}
+use Rattle.capture_check.specs.Steps.{bodies}
+use Rattle.capture_check.specs.ContentsLaws.{lies-offset, lies_end, gapless_head, gapless_rest, shaped_end, shaped-gapless}
+use Rattle.capture_check.specs.StepsLaws.{here, bodies_more, bodies_none}
 use Rattle.capture_body.specs.Steps.{lent_state}
+use Rattle.capture_calls.proofs.CallLaws.{words_in_few}
 use Rattle.capture_calls.specs.Steps.{calls_of, copy_prints}
 use Rattle.capture.proofs.bodies.NextBody.{calls_turn, prints_turn}
-use borrow.Author.Rules.{rules}
 use Rattle.capture.proofs.bodies.run_bodies.Goals as goal
 
-pub loop-i-init : goal.loop-i-init
-loop-i-init c =
-    (search rules, search rules, search rules, refl, refl, refl, refl, refl, omega arith, rw triples_all c.requires.count_in_bounds.1, rw triples_all, rw triples_all)
+-- body i, which is due at `at` of `end` words
+module _ (ts : List (List ℕ)) (i at end : ℕ) (h : i < length ts) (g : gapless (bodies (drop i ts)) at end ≡ true) where
+  stands : gapless (here ts i h ∷ bodies (drop (i + 1) ts)) at end ≡ true
+  stands = rw (bodies_more ts i h) at g
 
-pub slice_bounds-run_body-end : goal.slice_bounds-run_body-end
-slice_bounds-run_body-end c =
-    let l = c.loop-i in
-    omega (arith, body_end _ l.i _ l.at _ _ (omega arith) l.invariant.9 c.wide.ensures.0)
+  offset : get_or (get_or ts i []) 1 0 ≡ at
+  offset = lies-offset (here ts i h) at end (gapless_head (here ts i h) (bodies (drop (i + 1) ts)) at end stands)
+
+  ends : at + get_or (get_or ts i []) 2 0 ≤ end
+  ends = lies_end (here ts i h) at end (gapless_head (here ts i h) (bodies (drop (i + 1) ts)) at end stands)
+
+  rest : gapless (bodies (drop (i + 1) ts)) (at + get_or (get_or ts i []) 2 0) end ≡ true
+  rest = gapless_rest (here ts i h) (bodies (drop (i + 1) ts)) at end stands
+
+pub triples-kind-items-requires : goal.triples-kind-items-requires
+triples-kind-items-requires c = shaped_end _ c.requires.formed
+
+pub loop-kind-init : goal.loop-kind-init
+loop-kind-init c =
+    let w = c.args.words.now in
+    let e = c.triples-kind-items.ensures in
+    (contents_end (body_count w), rw e (shaped-gapless w c.requires.formed), omega (arith, c.requires.words_in_bounds), rw e refl, rw e refl)
+
+pub body_words-body-requires : goal.body_words-body-requires
+body_words-body-requires c =
+    let l = c.loop-kind in
+    let ts = c.triples-kind-items.result.now in
+    let at = l.invariant.0 in
+    let end = length c.args.words.now in
+    omega (arith, offset ts l.kind-index at end (omega arith) l.invariant.1, ends ts l.kind-index at end (omega arith) l.invariant.1)
 
 pub run_body-ran-requires : goal.run_body-ran-requires
 run_body-ran-requires c =
-    let l = c.loop-i in
-    let a = c.args in
-    let h = body_end a.words.now l.i a.count l.at (length a.words.now) _ (omega arith) l.invariant.9 c.wide.ensures.0 in
-    omega (arith, part_length a.words.now l.at _ h)
+    let l = c.loop-kind in
+    let ts = c.triples-kind-items.result.now in
+    let w = c.args.words.now in
+    let b = here ts l.kind-index (omega arith) in
+    let few = words_in_few w b in
+    let fits = ends ts l.kind-index l.invariant.0 (length w) (omega arith) l.invariant.1 in
+    rw (c.body_words-body.ensures b.kind) (omega (arith, few, fits, l.invariant.2))
 
-pub overflow_add-i-in-loop-i : goal.overflow_add-i-in-loop-i
-overflow_add-i-in-loop-i c = omega (arith, c.loop-i.invariant, c.loop-i-test.true, c.well_formed)
-
-pub loop-i-smaller : goal.loop-i-smaller
-loop-i-smaller c = omega (arith, c.loop-i.invariant, c.loop-i-test.true, c.well_formed)
-
-pub loop-i-preserved : goal.loop-i-preserved
-loop-i-preserved c =
-    let a = c.args in
-    let l = c.loop-i in
-    let t = c.loop-i-test.true in
-    let q = c.wide.ensures.0 in
+pub loop-kind-preserved : goal.loop-kind-preserved
+loop-kind-preserved c =
+    let l = c.loop-kind in
+    let ts = c.triples-kind-items.result.now in
+    let i = l.kind-index in
+    let at = l.invariant.0 in
+    let w = c.args.words.now in
+    let h : i < length ts = omega arith in
+    let b = here ts i h in
     let r = c.run_body-ran in
-    let w = a.words.now in
-    let h = body_end w l.i a.count l.at (length w) _ t l.invariant.9 q in
-    let s = lent_state l.file l.tables l.block l.copied l.left in (
-      omega (arith, t),
-      l.invariant.1,
-      omega (arith, h),
-      omega (arith, l.invariant.3, r.auto.file),
-      omega (arith, l.invariant.4, r.auto.tables),
-      omega (arith, l.invariant.5, r.auto.block),
-      omega (arith, l.invariant.6, r.auto.copied),
-      omega (arith, l.invariant.7, r.auto.out),
-      omega (arith, l.invariant.8, r.ensures.room, part_length w l.at _ h),
-      body_rest _ l.i _ l.at _ _ t l.invariant.9 q,
-      calls_turn w l.i a.count l.at (length w) _ t l.invariant.9 q _ (part_is w l.at _) s _ r.ensures.state _ l.invariant.10,
-      prints_turn w l.i a.count l.at (length w) _ t l.invariant.9 q _ (part_is w l.at _) s _ r.ensures.state l.out _ l.next _ _ r.ensures.text l.invariant.11,
+    let few = words_in_few w b in
+    let fits = ends ts i at (length w) h l.invariant.1 in
+    let words = c.body_words-body.ensures b.kind in
+    let size = ap length words in
+    let s = lent_state l.file l.tables l.block l.copied l.ran.held in (
+      at + b.size,
+      rest ts i at (length w) h l.invariant.1,
+      omega (arith, few, fits, size, r.ensures.room, r.auto.out, l.invariant.2),
+      calls_turn w b (bodies (drop (i + 1) ts)) _ words s _ r.ensures.state _ (rw (bodies_more ts i h) at l.invariant.3),
+      prints_turn w b (bodies (drop (i + 1) ts)) _ words s _ r.ensures.state l.out _ l.ran.next _ _ r.ensures.text (rw (bodies_more ts i h) at l.invariant.4),
     )
 
 pub returns : goal.returns
 unfolding puts copy_prints calls_of run
 returns c =
-    let a = c.args in
-    let l = c.loop-i in
+    let l = c.loop-kind in
+    let ts = c.triples-kind-items.result.now in
     record {
-      state = rw (triples_none a.words.now l.i a.count (omega arith)) at l.invariant.10;
-      text = rw (triples_none a.words.now l.i a.count (omega arith)) at l.invariant.11;
-      room = omega arith;
+      state = rw (bodies_none ts l.kind-index (omega arith)) at l.invariant.3;
+      text = rw (bodies_none ts l.kind-index (omega arith)) at l.invariant.4;
+      room = omega (arith, l.invariant.2);
     }
