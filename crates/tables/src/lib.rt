@@ -9,7 +9,8 @@ pub mod registers;
 
 use refusals::Refusal;
 
-// What a list of writes answers: that all are done, or the refusal of the first write that was refused; how many were made, and the generation after them.
+// What a list of writes answers: that all are done, or the refusal of the first write that was refused; how many were made, and the generation after them,
+// which the caller needs in either case.
 #[derive(Clone, Copy)]
 pub struct WrittenEach {
     pub outcome: Result<(), Refusal>,
