@@ -1,4 +1,3 @@
 pub mod PieceLaws
 pub mod Sources
 pub mod SourcesLaws
-pub mod Steps
