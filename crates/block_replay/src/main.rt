@@ -9,31 +9,22 @@ struct Count {
 
 // A word that isn't there counts as 0.
 fn word_of(words: &[u32], at: usize) -> u32 {
-    if at < words.len() { words[at] } else { 0 }
-}
-
-fn put(out: &mut [u32], at: usize, word: u32) {
-    if at < out.len() {
-        out[at] = word;
-    }
+    words.get(at).copied().unwrap_or(0)
 }
 
 // The pairs of a place and a word that the words begin with, `count` of them, into `out`.
 fn put_pairs(out: &mut [u32], words: &[u32], count: u32) {
-    let mut i: u32 = 0;
-    while i < count {
-        let at = 2 * i as usize;
-        put(out, word_of(words, at) as usize, word_of(words, at + 1));
-        i += 1;
+    for pair in words.chunks_exact(2).take(count as usize) {
+        if let [at, word] = pair {
+            if let Some(place) = out.get_mut(*at as usize) {
+                *place = *word;
+            }
+        }
     }
 }
 
 fn rest_of(words: &[u32], at: usize) -> &[u32] {
-    if at <= words.len() {
-        &words[at..]
-    } else {
-        &words[..0]
-    }
+    &words[at.min(words.len())..]
 }
 
 fn print_difference(rt: &impl Print, file: u64, at: usize, got: u32, wanted: u32) {
@@ -41,61 +32,42 @@ fn print_difference(rt: &impl Print, file: u64, at: usize, got: u32, wanted: u32
 }
 
 // Whether two blocks differ; prints each word that does.
-fn differ(rt: &impl Print, file: u64, block: &[u32], wanted: &[u32]) -> bool {
+fn differ(rt: &impl Print, file: u64, block: &[u32; 328], wanted: &[u32; 328]) -> bool {
     let mut found = false;
-    let mut i = 0;
-    while i < 328 {
-        let got = word_of(block, i);
-        let due = word_of(wanted, i);
-        if got != due {
-            print_difference(rt, file, i, got, due);
+    for i in 0..328 {
+        if block[i] != wanted[i] {
+            print_difference(rt, file, i, block[i], wanted[i]);
             found = true;
         }
-        i += 1;
     }
     found
 }
 
-// Counts stop at the largest, which no list reaches.
-fn more(n: u64) -> u64 {
-    if n < 0xFFFF_FFFF_FFFF_FFFF { n + 1 } else { n }
-}
-
 // One file: the number that is due, its registers, and the words of its block that aren't zero. An off file's block stays zero.
+// Whether it differs.
 fn replay_file(
     rt: &impl Print,
+    file: u64,
     number: u32,
     registers: &[u32],
     n: u32,
     places: &[u32],
     m: u32,
-    count: Count,
-) -> Count {
-    let mut file = [0u32; 474];
+) -> bool {
+    let mut words = [0u32; 474];
     let mut block = [0u32; 328];
     let mut wanted = [0u32; 328];
-    put_pairs(&mut file, registers, n);
+    put_pairs(&mut words, registers, n);
     put_pairs(&mut wanted, places, m);
-    let files = more(count.files);
-    let got = block_abi::block_pack(&file, &mut block);
-    let mut found = differ(rt, files, &block, &wanted);
+    let got = block_abi::block_pack(&words, &mut block);
+    let found = differ(rt, file, &block, &wanted);
     if got != number {
-        print_difference(rt, files, 328, got, number);
-        found = true;
+        print_difference(rt, file, 328, got, number);
     }
-    if found {
-        return Count {
-            files: files,
-            differ: more(count.differ),
-        };
-    }
-    Count {
-        files: files,
-        differ: count.differ,
-    }
+    found | (got != number)
 }
 
-// Every file of the list.
+// Every file of the list. Its files are of many lengths, so that no iterator goes over them. Counts stop at the largest, which no list reaches.
 fn replay(rt: &impl Print, words: &[u32]) -> Count {
     let mut count = Count {
         files: 0,
@@ -107,15 +79,17 @@ fn replay(rt: &impl Print, words: &[u32]) -> Count {
         let n = word_of(here, 1);
         let after = 2 + 2 * n as usize;
         let m = word_of(here, after);
-        count = replay_file(
+        count.files = count.files.saturating_add(1);
+        let differs = replay_file(
             rt,
+            count.files,
             word_of(here, 0),
             rest_of(here, 2),
             n,
             rest_of(here, after + 1),
             m,
-            count,
         );
+        count.differ = count.differ.saturating_add(differs as u64);
         at += after + 1 + 2 * m as usize;
     }
     count
@@ -124,8 +98,6 @@ fn replay(rt: &impl Print, words: &[u32]) -> Count {
 fn main(rt: HostRuntime) {
     let mut words = [0u32; 16384];
     let size = word_text::load_file(&rt, b"files.txt", &mut words);
-    let count = replay(&rt, &words[..size]);
-    let files = count.files;
-    let differ = count.differ;
+    let Count { files, differ } = replay(&rt, &words[..size]);
     let _ = println!(rt; "{files} files replayed, {differ} differ");
 }
