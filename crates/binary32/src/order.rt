@@ -1,5 +1,5 @@
-// The order of 32-bit floats as Rust has it: magnitude, the larger, the smaller, clamping. Not std's methods: its `abs` takes two tests, its `max` and `min` leave
-// open which of two zeros they give, and its `clamp` asks that the bounds be in order.
+// The order of 32-bit floats as Rust has it: magnitude, the larger, the smaller, clamping. Not std's methods: its `abs` takes two tests, its `max` and `min`
+// leave open which of two zeros they give, and its `clamp` asks that the bounds be in order.
 ghost use Rattle.std.specs.Prelude.{◌≡◌};
 ghost use Rattle.binary32.specs.Binary32.{float0, float1, magnitude_of, max_of, min_of, clamp_of};
 

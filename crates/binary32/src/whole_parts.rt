@@ -1,4 +1,5 @@
-// Whole parts of 32-bit floats, from their digits: floor, and quantising. For speed: std's `floor` takes the size apart, rounds it both ways and puts the sign back.
+// Whole parts of 32-bit floats, from their digits: floor, and quantising. For speed: std's `floor` rounds the size both ways and puts the
+// sign back.
 ghost use Rattle.std.specs.Prelude.{◌≡◌, ◌-◌, ◌≤◌, min, T, pos};
 ghost use Rattle.std.specs.Float.{binary32};
 ghost use Rattle.std.specs.Float.Ieee.{of_int, to_unsigned};

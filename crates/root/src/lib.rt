@@ -1,5 +1,5 @@
-// The square root of an f32, correctly rounded, by whole-number arithmetic on its bit pattern. Not std's `sqrt`: what that promises is another definition, by 2,271
-// binary places, of which no law says that it is the nearest value, as proofs/Closest says of this one.
+// The square root of an f32, correctly rounded, by whole-number arithmetic on its bit pattern. Not std's `sqrt`: what that promises is another definition, by
+// 2,271 binary places, of which no law says that it is the nearest value, as proofs/Closest says of this one.
 // A value above zero is m * 2 ^ (y - 126) smallest values, for an m of 24 binary digits. It is carried as n: y, then the 23 digits of m below the leading one.
 #![tactic(auto)]
 

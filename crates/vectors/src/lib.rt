@@ -1,5 +1,5 @@
-// Vectors of three floats. The cross product and a quaternion's turn are `rotation`. Each component is written out: `map` over an array moves its elements through
-// memory, as was seen at a colour's fields.
+// Vectors of three floats. The cross product and a quaternion's turn are `rotation`. Each component is written out: `map` over an array moves its
+// elements through memory, as was seen at a colour's fields.
 #![tactic(auto)]
 
 pub mod rotation;
