@@ -3,7 +3,7 @@
 use Rattle.std.specs.Prelude.{ℕ, ◌<◌, ◌≤◌, ◌≡◌, true, List, get_or, Float}
 use Rattle.std.proofs.Common.{arith}
 use Rattle.std.proofs.Math.Path.{refl, sym}
-use borrow.Author.Tests.{lt-ltb, ltb-true}
+use borrow.Author.Tests.{lt-ltb, ltb-true, leb-true}
 use Rattle.lighting.specs.Lighting.{no_light, bump_unit, shadow_unit, slot_of, light_at}
 use Rattle.block.specs.Block.{from, slot_at, well_formed, block_light, block_lights, block_lighting}
 use Rattle.block.specs.FormedLaws.{formed_parts}
@@ -28,6 +28,10 @@ module _ (w : ℕ → ℕ) where
   pub lit_light : (s : ℕ) → s < w 1 → w 1 ≤ 8 → get_or (block_lights w) s no_light ≡ block_light (from w (slot_at (slot_of s)))
   unfolding light_at block_lighting
   lit_light s h few = lit-of-block w s (omega arith) (lt-ltb s (w 1) h)
+
+  -- at most eight are lit
+  pub few : well_formed w ≡ true → w 1 ≤ 8
+  few f = leb-true (w 1) 8 (formed_parts w f).shape.few
 
   -- its number is one of eight
   pub lit_number : well_formed w ≡ true → (s : ℕ) → s < w 1 → (block_light (from w (slot_at (slot_of s)))).number.0 < 8

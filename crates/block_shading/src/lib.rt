@@ -37,7 +37,7 @@ fn first_unit_quaternion(fragments: &[u32]) -> [f32; 4]
 }
 
 // What the form of the block leaves: the channels of each fragment, or off or a refusal and the answers as they were.
-#[tactic(auto, using(sources::proofs::WordsLaws::word_values), unfolding(crate::specs::Steps::shaded_by_form))]
+#[tactic(auto, using(sources::proofs::WordsLaws::word_values, block_reading::specs::FormLaws::is_lit_lem, block_reading::specs::FormLaws::is_plain_lem), unfolding(crate::specs::Steps::shaded_by_form))]
 fn shade_by_form(
     block: &[u32],
     tables: &[u32],

@@ -57,6 +57,7 @@ fn shadow_of<W: Word>(l: Lighting, words: &[W], at: usize) -> [f32; 4]
 
 // The sums of the lit slots. `plain` says that no word of the block is a NaN's pattern. A loop beside that of `shading::sums`, which has the lights in a list: one
 // over a closure that gives a slot's light would say in its contract what each call gives, and be longer than both.
+#[tactic(auto, using(crate::specs::HeadLaws::few, crate::specs::HeadLaws::lit_number, crate::specs::HeadLaws::lit_light), unfolding(shading::specs::Steps::sums_by))]
 fn sum_slots<B: Word, T: Word>(
     block: &[B],
     tables: &[T],
@@ -131,6 +132,7 @@ fn unit_quaternion_at<W: Word>(fragments: &[W], i: usize, first: [f32; 4]) -> [f
 // quaternion: whoever makes it before the check of the block has its root and quotients done while the check runs.
 // Asks: the right lengths and a well-formed block, without a NaN's pattern where `plain` is set: its callers, on words and on bytes, have checked them. One
 // function serves one fragment and many, since the steps of a light are put into its loop only while they are called from one place.
+#[tactic(auto, using(crate::specs::FragmentsLaws::none, crate::specs::FragmentsLaws::each_put))]
 pub fn shade_each<B: Word, T: Word, F: Word>(
     block: &[B],
     tables: &[T],

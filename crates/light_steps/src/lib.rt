@@ -32,6 +32,7 @@ fn distance_of<W: Word>(tables: &[W], light: Light, norm: f32) -> f32
 }
 
 // What a light reads from the tables, given its distance.
+#[tactic(auto, using(crate::specs::ReadingsLaws::read_in_steps))]
 fn values_of<W: Word>(
     tables: &[W],
     lookups: LightingLookups,
@@ -67,6 +68,7 @@ fn unread_directions(light: Light, vector: [f32; 3], frame: Frame, needed: bool)
 
 // The sums with one light's contribution. `last` is the last slot lit, where fresnel is applied if there is its lookup.
 // Asks: tables of 12,288 words and a light number below 8, which the caller has looked at once for all its lights and fragments.
+#[tactic(auto, using(crate::proofs::Rays::directions_is, crate::proofs::Rays::distance_is, crate::proofs::Rays::unread_is, crate::specs::ReadingsLaws::read_none, crate::specs::ReadingsLaws::none_applied), unfolding(crate::specs::Steps::step_of))]
 pub fn step<W: Word>(
     tables: &[W],
     lookups: LightingLookups,

@@ -1,11 +1,13 @@
--- The answers of `shade`. Each follows from the tests that led to it. Assumes nothing.
-use Rattle.std.proofs.Common.{◌≡◌, ℕ, ◌+◌, true, false, List, ◌++◌, map, length, take, drop, ap, ◌∙◌, append-nil, arith, drop_of_length-le, eq-eqb, ne_eqb}
+-- The answers of `shade`, each by the tests that led to it, and what a lighting in range gives the sums. Assumes nothing.
+use Rattle.std.proofs.Common.{◌≡◌, ℕ, ◌+◌, ◌≤◌, true, false, List, ◌++◌, map, length, take, drop, ap, ◌∙◌, append-nil, arith, drop_of_length-le, eq-eqb, ne_eqb}
 use Rattle.sources.proofs.WordsLaws.{word_values}
 use lib.Ieee.{Float}
 use Rattle.refusals.specs.Refusals.{tables_refusal, answer_refusal}
 use Rattle.lighting.specs.declared.Lighting.{Lighting}
 use Rattle.block.specs.Block.{accepted, lighting_refusal}
-use Rattle.shading.specs.Steps.{shade_of}
+use Rattle.lighting.specs.Lighting.{slot_of, light_at, in_range}
+use Rattle.block.proofs.PackedLaws.{range_number}
+use Rattle.shading.specs.Steps.{shade_of, Numbered}
 use Rattle.shading.proofs.ShadeLaws.{shade_law}
 use Rattle.shading.specs.Shade.{shaded, shade_refusal, shades}
 
@@ -46,3 +48,8 @@ eight l tables quaternion view texels answer k written e f a p w =
     ∙ append-nil k
     ∙ p
     ∙ ap (λ (t : List ℕ). shade_of l t quaternion view texels) (word_values tables))
+
+-- an accepted count, and numbers of at most 7
+pub numbered : (l : Lighting) → in_range l ≡ true → Numbered l.lights l.light_count
+unfolding light_at
+numbered l h k n = let m : (light_at l (slot_of k)).number.0 ≤ 7 = range_number l h k n in omega arith

@@ -19,6 +19,7 @@ use surface::Frame;
 
 // The eight channels, 0 to 255, in the printed order, from the frame and the shadow.
 // Asks: tables of 12,288 words and a lighting in range, which the caller has looked at before it makes the frame.
+#[tactic(auto, using(block::proofs::PackedLaws::range_count, crate::proofs::Answers::numbered), unfolding(crate::specs::Steps::shade_by))]
 pub fn shade_by<W: Word>(tables: &[W], l: Lighting, frame: Frame, shadow: [f32; 4]) -> [u32; 8]
     requires { (length tables.now ≡ 12288) × (in_range l ≡ true) }
     ensures { result ≡ shade_by (map W.value tables.now) l frame shadow }

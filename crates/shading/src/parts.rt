@@ -1,7 +1,7 @@
 // What shading takes of a lighting: the lookups, the settings of the sums, the frame and the shadow from the texels, and the end.
 ghost use Rattle.std.specs.Prelude.{◌≡◌, ◌≤◌, true};
 ghost use Rattle.lighting.specs.Lighting.{in_range};
-ghost use Rattle.shading.specs.Steps.{lighting_lookups, lighting_settings, lighting_frame, lighting_shadow, texel_of, finished_of};
+ghost use Rattle.shading.specs.Steps.{lighting_lookups, lighting_settings, lighting_frame, lighting_shadow, finished_of};
 
 use crate::channels;
 use light_steps::types::{LightingLookups, Settings, Sums};
@@ -40,13 +40,6 @@ pub fn settings_of(l: Lighting, shadow: [f32; 4]) -> Settings
     }
 }
 
-fn texel_of(texels: [[f32; 4]; 4], unit: usize) -> [f32; 4]
-    requires { unit ≤ 3 }
-    ensures { result ≡ texel_of texels unit }
-{
-    texels[unit]
-}
-
 #[tactic(auto, using(block::proofs::PackedLaws::range_bump), unfolding(surface::specs::Steps::frame_of, crate::specs::Steps::lighting_frame))]
 pub(crate) fn frame_of(
     l: Lighting,
@@ -57,7 +50,7 @@ pub(crate) fn frame_of(
     requires { in_range l ≡ true }
     ensures { result ≡ lighting_frame l quaternion view texels }
 {
-    let texel = texel_of(texels, lighting::bump_unit(l.bump));
+    let texel = texels[lighting::bump_unit(l.bump)];
     let unit = surface::unit_quaternion(quaternion);
     surface::frame_of(l.bump, texel, l.config, l.needs_view, unit, view)
 }
@@ -67,7 +60,7 @@ pub(crate) fn shadow_of(l: Lighting, texels: [[f32; 4]; 4]) -> [f32; 4]
     requires { in_range l ≡ true }
     ensures { result ≡ lighting_shadow l texels }
 {
-    let texel = texel_of(texels, lighting::shadow_unit(l.shadow));
+    let texel = texels[lighting::shadow_unit(l.shadow)];
     surface::shadow::shadow_texel(l.shadow, texel)
 }
 
