@@ -15,7 +15,6 @@ pub mod types;
 mod values;
 
 ghost use Rattle.std.specs.Prelude.{◌≡◌, ◌<◌, length, map};
-ghost use Rattle.sources.specs.Steps.{given};
 ghost use Rattle.light_steps.specs.Steps.{distance_reading_by, read_value, distance_reading, values_of, unread_directions, step_of};
 
 use crate::types::{LightingLookups, Settings, Sums, Values};
