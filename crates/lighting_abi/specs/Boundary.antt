@@ -6,6 +6,7 @@ use Rattle.refusals.specs.Refusals.{file_refusal, tables_refusal, ◌else◌}
 use Rattle.sources.specs.Sources.{words_of}
 use Rattle.tables.specs.Tables.{Writes, writes, write_each}
 use Rattle.block.specs.Block.{block_read}
+use Rattle.unit.specs.Unit.{read_number}
 use Rattle.shading.specs.Shade.{Shaded, shaded}
 use Rattle.block_shading.specs.BlockShading.{block_shading}
 use Rattle.short_float_census.specs.Census.{four_of, census_of}
@@ -30,7 +31,7 @@ write_list f t g pairs d =
 
 -- the refusal's number, or 0 where the block is lit and 100 where it is off
 unfoldable pub block_read_number : List ℕ → ℕ
-block_read_number b = (block_read b).number else cond (block_read b).reading.on 0 100
+block_read_number b = (block_read b).number else read_number (block_read b).reading
 
 -- ---- words and bytes
 

@@ -4,8 +4,7 @@ use Rattle.std.specs.Prelude.{ℕ, ◌*◌, ◌/◌, ◌%◌, ◌<◌, ◌≡◌
 use Rattle.std.proofs.Common.{arith, subst, ◌∙◌, eq-eqb, eqb-true}
 use Rattle.std.proofs.Math.Path.{refl, ap}
 use Rattle.sources.specs.Sources.{words_of}
-use Rattle.sources.specs.Steps.{given}
-use Rattle.sources.specs.SourcesLaws.{length_words, given_bytes}
+use Rattle.sources.specs.SourcesLaws.{length_words}
 use Rattle.lighting_abi.specs.Boundary.{bytes_of, whole_words, answer_bytes, shade_bytes}
 use Rattle.shading.specs.Shade.{Shaded, shaded}
 use Rattle.block_shading.specs.BlockShading.{eight_of_each}
@@ -28,13 +27,13 @@ pub wrong_length : (b : List ℕ) (n : ℕ) → 0 < n → (length b ≡ 4 * n �
 unfolding whole_words
 wrong_length b n h k e = wrong_by b n h (eqb (length b % 4) 0) refl k e
 
--- with no slice of words, the words are those of the bytes
-pub given_whole : (b : List ℕ) (n : ℕ) → 0 < n → length b ≡ 4 * n → given [] b ≡ whole_words b
+-- the words of whole words are those of the bytes
+pub words_whole : (b : List ℕ) (n : ℕ) → 0 < n → length b ≡ 4 * n → words_of b ≡ whole_words b
 unfolding whole_words
-given_whole b n h e = rw (eq-eqb (length b % 4) 0 (omega arith)) (given_bytes [] b (λ z. let q : length b ≡ 0 = z in omega arith))
+words_whole b n h e = rw (eq-eqb (length b % 4) 0 (omega arith)) refl
 
-pub given-length : (b : List ℕ) (n : ℕ) → 0 < n → length b ≡ 4 * n → length (given [] b) ≡ n
-given-length b n h e = ap length (given_whole b n h e) ∙ right_length b n e
+pub words_length : (b : List ℕ) (n : ℕ) → 0 < n → length b ≡ 4 * n → length (words_of b) ≡ n
+words_length b n h e = ap length (words_whole b n h e) ∙ right_length b n e
 
 -- a number that isn't 0 leaves the bytes
 left : (k : ℕ) (s : Shaded) (words answer : List ℕ) → eqb k 0 ≡ false → shaded k words ≡ s → shaded k answer ≡ answer_bytes s answer
@@ -70,30 +69,30 @@ module _ (block tables fragment answer : List ℕ) where
         -- the right lengths
 
         module _ (a : length answer ≡ 32) where
-          gb : given [] block ≡ whole_words block
-          gb = given_whole block 328 (omega arith) b
+          gb : words_of block ≡ whole_words block
+          gb = words_whole block 328 (omega arith) b
 
-          gt : given [] tables ≡ whole_words tables
-          gt = given_whole tables 12288 (omega arith) t
+          gt : words_of tables ≡ whole_words tables
+          gt = words_whole tables 12288 (omega arith) t
 
-          gf : given [] fragment ≡ whole_words fragment
-          gf = given_whole fragment 23 (omega arith) f
+          gf : words_of fragment ≡ whole_words fragment
+          gf = words_whole fragment 23 (omega arith) f
 
-          by_words : answer_bytes (shaded_by_form (given [] block) (given [] tables) (given [] fragment) (whole_words answer)) answer ≡ shade_bytes block tables fragment answer
+          by_words : answer_bytes (shaded_by_form (words_of block) (words_of tables) (words_of fragment) (whole_words answer)) answer ≡ shade_bytes block tables fragment answer
           unfolding shade_bytes
           by_words =
               ap (λ (s : Shaded). answer_bytes s answer)
               (rw (gb, gt, gf) (by_form_of_one (whole_words block) (whole_words tables) (whole_words fragment) (whole_words answer) (right_length fragment 23 f) (right_length answer 8 a) (right_length block 328 b) (right_length tables 12288 t)))
 
-          pub lit_bytes : is_lit (block_form (given [] block)) ≡ true
-              → shaded 0 (bytes_of (eight_of_each (block_lighting (words (given [] block))) (given [] tables) (length (given [] fragment) / 23) (given [] fragment))) ≡ shade_bytes block tables fragment answer
+          pub lit_bytes : is_lit (block_form (words_of block)) ≡ true
+              → shaded 0 (bytes_of (eight_of_each (block_lighting (words (words_of block))) (words_of tables) (length (words_of fragment) / 23) (words_of fragment))) ≡ shade_bytes block tables fragment answer
           unfolding shaded_by_form answer_bytes
           lit_bytes h = rw h at by_words
 
-          pub off_bytes : is_lit (block_form (given [] block)) ≡ false → is_off (block_form (given [] block)) ≡ true → shaded 100 answer ≡ shade_bytes block tables fragment answer
+          pub off_bytes : is_lit (block_form (words_of block)) ≡ false → is_off (block_form (words_of block)) ≡ true → shaded 100 answer ≡ shade_bytes block tables fragment answer
           unfolding shaded_by_form answer_bytes
           off_bytes l o = rw (l, o) at by_words
 
-          pub bad_bytes : is_lit (block_form (given [] block)) ≡ false → is_off (block_form (given [] block)) ≡ false → shaded 7 answer ≡ shade_bytes block tables fragment answer
+          pub bad_bytes : is_lit (block_form (words_of block)) ≡ false → is_off (block_form (words_of block)) ≡ false → shaded 7 answer ≡ shade_bytes block tables fragment answer
           unfolding shaded_by_form answer_bytes
           bad_bytes l o = rw (l, o) at by_words

@@ -13,12 +13,18 @@ ghost use Rattle.unit.specs.CacheWords.{cached_read_packed_words, hand_over_word
 ghost use Rattle.shading.specs.Shade.{shaded};
 ghost use Rattle.block_shading.specs.BlockShading.{shade_fragments};
 ghost use Rattle.capture_calls.specs.Capture.{captured, captures};
+ghost use Rattle.refusals.specs.Refusals.{switch_number};
+ghost use Rattle.lighting_abi.specs.Steps.{form_number};
 ghost use Rattle.lighting_abi.specs.Boundary.{write_list, block_read_number, shade_bytes, censused, census_words};
 
 use block::BlockForm;
 use block_reading::{is_lit, is_plain};
 use block_shading::is_off;
-use tables::Written;
+use refusals::{Refusal, Switch};
+use sources::words::words_of;
+
+// The number of a slice of which the papers do not speak.
+const OTHER_SLICE: u32 = 101;
 
 // A write to a register: table data goes into the tables, any other word into the file.
 #[unsafe(no_mangle)]
@@ -32,11 +38,11 @@ pub extern "C" fn lighting_write(
     ensures { wrote result file.new tables.new generation.new ≡ write_of file.old tables.old generation.old register value }
 {
     match tables::registers::write(file, tables, *generation, register, value) {
-        Written::Done(next) => {
-            *generation = next;
+        Ok(raised) => {
+            *generation = raised;
             0
         }
-        Written::Refused(refusal) => refusals::number(refusal),
+        Err(refusal) => u32::from(refusal),
     }
 }
 
@@ -52,19 +58,18 @@ pub extern "C" fn lighting_writes(
     ensures { writes result done.new file.new tables.new generation.new ≡ write_list file.old tables.old generation.old pairs.now done.old }
 {
     if file.len() < 474 {
-        return 1;
+        return u32::from(Refusal::ShortFile);
     }
     if tables.len() != 12288 {
-        return 2;
+        return u32::from(Refusal::WrongTables);
     }
     if pairs.len() % 2 != 0 {
-        return 101;
+        return OTHER_SLICE;
     }
     let written = tables::lists::write_each(file, tables, *generation, pairs);
     *done = written.done as u64;
     *generation = written.generation;
-    let outcome = written.outcome;
-    refusals::outcome_number(outcome)
+    refusals::outcome_number(written.outcome)
 }
 
 // Every entry of the tables from a saved state.
@@ -73,11 +78,11 @@ pub extern "C" fn lighting_restore(tables: &mut [u32], generation: &mut u64, sav
     ensures { restored result tables.new generation.new ≡ restore_of tables.old generation.old saved.now }
 {
     match tables::copies::restore(tables, *generation, saved) {
-        Written::Done(next) => {
-            *generation = next;
+        Ok(raised) => {
+            *generation = raised;
             0
         }
-        Written::Refused(refusal) => refusals::number(refusal),
+        Err(refusal) => u32::from(refusal),
     }
 }
 
@@ -86,8 +91,7 @@ pub extern "C" fn lighting_restore(tables: &mut [u32], generation: &mut u64, sav
 pub extern "C" fn lighting_save(tables: &[u32], output: &mut [u32]) -> u32
     ensures { saved_as result output.new ≡ save_of tables.now output.old }
 {
-    let outcome = tables::copies::save(tables, output);
-    refusals::outcome_number(outcome)
+    refusals::outcome_number(tables::copies::save(tables, output))
 }
 
 // The lighting that is set up in the registers, as its block: all zero where it is off.
@@ -122,21 +126,28 @@ pub extern "C" fn lighting_hand_over(
     unit::lent::hand_over(file, tables, generation, cache, block, copied, age)
 }
 
+// What the form of a block of 328 words tells.
+#[tactic(auto, unfolding(crate::specs::Steps::form_number))]
+fn switch_of(form: BlockForm) -> Result<Switch, Refusal>
+    ensures { switch_number result ≡ form_number form }
+{
+    match form {
+        BlockForm::Off => Ok(Switch::Off),
+        BlockForm::NotWellFormed => Err(Refusal::NotWellFormed),
+        BlockForm::NanFree => Ok(Switch::On),
+        BlockForm::WithNan => Ok(Switch::On),
+    }
+}
+
 // Whether a block is lit, off, or refused.
 #[unsafe(no_mangle)]
 pub extern "C" fn lighting_read_block(block: &[u32]) -> u32
     ensures { result ≡ block_read_number block.now }
 {
     if block.len() != 328 {
-        return 6;
+        return u32::from(Refusal::WrongBlock);
     }
-    let none = [0u8; 0];
-    match block_check::form(block, &none) {
-        BlockForm::Off => 100,
-        BlockForm::NotWellFormed => 7,
-        BlockForm::NanFree => 0,
-        BlockForm::WithNan => 0,
-    }
+    refusals::switch_number(switch_of(block_check::form(block)))
 }
 
 // The eight channels of a fragment, 0 to 255, in the printed order; a word, and each channel of the answer, is four bytes, the least first. It checks the
@@ -151,29 +162,28 @@ pub extern "C" fn lighting_shade_block(
     ensures { shaded result answer.new ≡ shade_bytes block.now tables.now fragment.now answer.old }
 {
     if block.len() != 1312 {
-        return 6;
+        return u32::from(Refusal::WrongBlock);
     }
     if tables.len() != 49152 {
-        return 2;
+        return u32::from(Refusal::WrongTables);
     }
     if fragment.len() != 92 {
-        return 9;
+        return u32::from(Refusal::WrongFragment);
     }
     if answer.len() != 32 {
-        return 9;
+        return u32::from(Refusal::WrongFragment);
     }
-    let none = [0u32; 0];
-    let unit = block_shading::slots::unit_quaternion_of(&none, fragment, 0);
-    let form = block_check::form(&none, block);
+    let block_words = words_of(block);
+    let table_words = words_of(tables);
+    let fragment_words = words_of(fragment);
+    let unit = block_shading::slots::unit_quaternion_of(fragment_words, 0);
+    let form = block_check::form(block_words);
     if is_lit(form) {
         let mut channels = [0u32; 8];
         block_shading::slots::shade_each(
-            &none,
-            block,
-            &none,
-            tables,
-            &none,
-            fragment,
+            block_words,
+            table_words,
+            fragment_words,
             1,
             unit,
             is_plain(form),
@@ -183,9 +193,9 @@ pub extern "C" fn lighting_shade_block(
         return 0;
     }
     if is_off(form) {
-        return 100;
+        return refusals::switch_number(Ok(Switch::Off));
     }
-    7
+    u32::from(Refusal::NotWellFormed)
 }
 
 // The eight channels of each fragment, 23 words each, into its 8 words of the answers.
@@ -198,8 +208,7 @@ pub extern "C" fn lighting_shade_fragments(
 ) -> u32
     ensures { shaded result answers.new ≡ shade_fragments block.now tables.now fragments.now answers.old }
 {
-    let answer = block_shading::shade_fragments(block, tables, fragments, answers);
-    block_shading::shaded_number(answer)
+    refusals::switch_number(block_shading::shade_fragments(block, tables, fragments, answers))
 }
 
 // What a capture prints, at the start of the output; `printed` is how many bytes.
@@ -220,12 +229,9 @@ pub extern "C" fn lighting_census(mantissa: u32, exponent: u32, totals: &mut [u3
     ensures { censused result totals.new ≡ census_words mantissa exponent totals.old }
 {
     if totals.len() != 4 {
-        return 101;
+        return OTHER_SLICE;
     }
     let found = short_float_census::census(mantissa, exponent);
-    totals[0] = found.zeros;
-    totals[1] = found.infinities;
-    totals[2] = found.nans;
-    totals[3] = found.numbers;
+    totals.copy_from_slice(&[found.zeros, found.infinities, found.nans, found.numbers]);
     0
 }

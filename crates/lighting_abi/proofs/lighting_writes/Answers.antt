@@ -7,11 +7,11 @@ use Rattle.lighting_abi.proofs.lighting_writes.Goals as goal
 
 pub returns-then-file-lt474 : goal.returns-then-file-lt474
 unfolding write_list_if file_refusal
-returns-then-file-lt474 c = simp (lt-leb 474 _ c.if-file-lt474.true)
+returns-then-file-lt474 c = simp (c.from.ensures, lt-leb 474 _ c.if-file-lt474.true)
 
 pub returns-then-tables-ne12288 : goal.returns-then-tables-ne12288
 unfolding write_list_if file_refusal tables_refusal
-returns-then-tables-ne12288 c = simp (le-leb 474 _ c.if-file-lt474.false, ne_eqb _ 12288 c.if-tables-ne12288.true)
+returns-then-tables-ne12288 c = simp (c.from-then-tables-ne12288.ensures, le-leb 474 _ c.if-file-lt474.false, ne_eqb _ 12288 c.if-tables-ne12288.true)
 
 pub returns-then-pairs-ne0 : goal.returns-then-pairs-ne0
 unfolding write_list_if file_refusal tables_refusal pairs_refusal
