@@ -3,12 +3,27 @@
 
 ghost use Rattle.std.specs.Prelude.{◌+◌, ◌<◌, ◌≤◌, length};
 
-// What the words of the list say of the capture that is being put together.
-const WORDS: u32 = 0;
+// What an entry of the list says of the capture that is being put together.
+enum Entry {
+    // words of the list
+    Words,
+    // any words, or any numbers, that follow from a seed
+    MadeWords,
+    MadeNumbers,
+    // the capture is there, and is run
+    Run,
+}
 
-const NUMBERS: u32 = 2;
-
-const RUN: u32 = 3;
+impl Entry {
+    fn from_number(number: u32) -> Entry {
+        match number {
+            0 => Entry::Words,
+            2 => Entry::MadeNumbers,
+            3 => Entry::Run,
+            _ => Entry::MadeWords,
+        }
+    }
+}
 
 // How many bytes of the capture are there, the place in the list, and how many captures were run.
 #[derive(Clone, Copy)]
@@ -20,11 +35,7 @@ struct Place {
 
 // A word that isn't there counts as 0.
 fn word_of(words: &[u32], at: usize) -> u32 {
-    if at < words.len() { words[at] } else { 0 }
-}
-
-fn byte(word: u32) -> u8 {
-    (word % 256) as u8
+    words.get(at).copied().unwrap_or(0)
 }
 
 // A byte at the end of the capture's; the place after it. What the buffer can't take is left out.
@@ -38,10 +49,11 @@ fn put_byte(input: &mut [u8], at: usize, b: u8) -> usize {
 
 // A word's four bytes, the lowest first.
 fn put_word(input: &mut [u8], at: usize, word: u32) -> usize {
-    let second = put_byte(input, at, byte(word));
-    let third = put_byte(input, second, byte(word / 0x100));
-    let fourth = put_byte(input, third, byte(word / 0x1_0000));
-    put_byte(input, fourth, byte(word / 0x100_0000))
+    let mut size = at;
+    for byte in word.to_le_bytes() {
+        size = put_byte(input, size, byte);
+    }
+    size
 }
 
 // So many words of the list.
@@ -49,17 +61,15 @@ fn put_words(input: &mut [u8], at: usize, words: &[u32], from: usize, count: u32
     requires { from ≤ length words.now + 2 }
 {
     let mut size = at;
-    let mut i: u32 = 0;
-    while i < count {
+    for i in 0..count {
         size = put_word(input, size, word_of(words, from + i as usize));
-        i += 1;
     }
     size
 }
 
-// Each number follows from the one before: times 1664525 plus 1013904223, cut to 32 bits.
+// Each number follows from the one before.
 fn following(x: u32) -> u32 {
-    ((x as u64 * 1664525 + 1013904223) % 0x1_0000_0000) as u32
+    x.wrapping_mul(1664525).wrapping_add(1013904223)
 }
 
 // The float between a half and one, or between minus one and minus a half, whose other bits are those of a word.
@@ -67,19 +77,13 @@ fn number_of(x: u32) -> u32 {
     x / 0x8000_0000 * 0x8000_0000 + 0x3F00_0000 + x / 0x100 % 0x80_0000
 }
 
-fn made_of(kind: u32, x: u32) -> u32 {
-    if kind == NUMBERS { number_of(x) } else { x }
-}
-
-// So many words that follow from a seed, any words or numbers.
-fn make_words(input: &mut [u8], at: usize, kind: u32, count: u32, seed: u32) -> usize {
+// So many words that follow from a seed, as they are or as numbers.
+fn make_words(input: &mut [u8], at: usize, numbers: bool, count: u32, seed: u32) -> usize {
     let mut size = at;
     let mut x = seed;
-    let mut i: u32 = 0;
-    while i < count {
+    for _ in 0..count {
         x = following(x);
-        size = put_word(input, size, made_of(kind, x));
-        i += 1;
+        size = put_word(input, size, if numbers { number_of(x) } else { x });
     }
     size
 }
@@ -99,39 +103,38 @@ fn run_first(rt: &impl Print, input: &[u8], size: usize, number: u64) {
     }
 }
 
-// Counts stop at the largest, which no list reaches.
-fn more(n: u64) -> u64 {
-    if n < 0xFFFF_FFFF_FFFF_FFFF { n + 1 } else { n }
-}
-
 // One entry of the list.
 fn step(rt: &impl Print, words: &[u32], input: &mut [u8], place: Place) -> Place
     requires { place.next < length words.now }
     ensures { place.next < result.next }
 {
-    let at = place.next;
-    let kind = word_of(words, at);
-    let count = word_of(words, at + 1);
-    if kind == RUN {
-        let ran = more(place.ran);
-        run_first(rt, input, count as usize, ran);
-        return Place {
-            size: 0,
-            next: at + 2,
+    let Place { size, next, ran } = place;
+    let count = word_of(words, next + 1);
+    match Entry::from_number(words[next]) {
+        Entry::Words => Place {
+            size: put_words(input, size, words, next + 2, count),
+            next: next + 2 + count as usize,
             ran,
-        };
-    }
-    if kind == WORDS {
-        return Place {
-            size: put_words(input, place.size, words, at + 2, count),
-            next: at + 2 + count as usize,
-            ran: place.ran,
-        };
-    }
-    Place {
-        size: make_words(input, place.size, kind, count, word_of(words, at + 2)),
-        next: at + 3,
-        ran: place.ran,
+        },
+        Entry::MadeWords => Place {
+            size: make_words(input, size, false, count, word_of(words, next + 2)),
+            next: next + 3,
+            ran,
+        },
+        Entry::MadeNumbers => Place {
+            size: make_words(input, size, true, count, word_of(words, next + 2)),
+            next: next + 3,
+            ran,
+        },
+        Entry::Run => {
+            let ran = ran.saturating_add(1);
+            run_first(rt, input, count as usize, ran);
+            Place {
+                size: 0,
+                next: next + 2,
+                ran,
+            }
+        }
     }
 }
 

@@ -1,38 +1,27 @@
 // Reads a capture on standard input and writes what it prints. What it prints is worked out by the library call; this only passes it on.
 #![tactic(auto)]
 
-ghost use Rattle.std.specs.Prelude.{◌≡◌};
+ghost use Rattle.std.specs.Prelude.{◌≡◌, ◌≤◌, IfOk, length};
 ghost use Rattle.capture_calls.specs.Capture.{short_output, number_by, size_of};
-ghost use Rattle.lightshow.specs.Input.{Within};
 
 use capture_calls::Answer;
 use std::io;
 use std::io::Read;
 
-// What reading gives: so many bytes, or a read that failed.
-#[derive(Drop)]
-enum Input {
-    Read(usize),
-    Failed(io::Error),
-}
-
-// Reads until the buffer is full or the input ends.
-fn read_input(rt: &impl io::Input, buf: &mut [u8]) -> Input
-    ensures { Within result buf.new }
+// Reads until the buffer is full or the input ends; how many bytes there were.
+fn read_input(rt: &impl io::Input, buf: &mut [u8]) -> io::Result<usize>
+    ensures { IfOk result (λ n. n ≤ length buf.new) }
 {
     let mut reader = rt.reader();
     let mut n = 0;
     while n < buf.len() {
-        let more = match reader.read(&mut buf[n..]) {
-            Ok(more) => more,
-            Err(e) => return Input::Failed(e),
-        };
+        let more = reader.read(&mut buf[n..])?;
         if more == 0 {
-            return Input::Read(n);
+            break;
         }
         n += more;
     }
-    Input::Read(n)
+    Ok(n)
 }
 
 // The output that the program lends is never too short.
@@ -52,18 +41,16 @@ fn show(rt: &(impl Print + Eprint), input: &[u8]) {
     let mut output = [0u8; 22784];
     let answer = capture::run_capture(input, &mut output);
     let size = size_of(answer);
-    match rt.write_all(&output[..size]) {
-        Ok(()) => {}
-        Err(e) => fail(rt, "standard output", e),
+    if let Err(e) = rt.write_all(&output[..size]) {
+        fail(rt, "standard output", e);
     }
 }
 
 // One byte more than a capture may have, so that too long an input is noticed.
 fn main(rt: HostRuntime) {
     let mut input = [0u8; 65537];
-    let read = read_input(&rt, &mut input);
-    match read {
-        Input::Read(n) => show(&rt, &input[..n]),
-        Input::Failed(e) => fail(&rt, "standard input", e),
+    match read_input(&rt, &mut input) {
+        Ok(n) => show(&rt, &input[..n]),
+        Err(e) => fail(&rt, "standard input", e),
     }
 }
