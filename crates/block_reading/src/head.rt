@@ -22,6 +22,7 @@ struct Options {
     needs_view: bool,
 }
 
+#[inline(always)]
 fn bump_of(n: u32) -> Bump
     ensures { result ≡ block_bump n }
 {
@@ -34,6 +35,7 @@ fn bump_of(n: u32) -> Bump
     }
 }
 
+#[inline(always)]
 fn shadow_of(n: u32) -> Option<Shadow>
     ensures { result ≡ block_shadow n }
 {
@@ -51,6 +53,7 @@ fn shadow_of(n: u32) -> Option<Shadow>
 }
 
 // The lookup of the four words from `at` on: presence, input, absolute, scale.
+#[inline(always)]
 fn lookup_of<W: Word>(block: &[W], at: usize) -> Lookup
     requires { (length block.now ≡ 328) × (at + 4 ≤ 328) }
     ensures { result ≡ block_lookup (from (words (map W.value block.now)) at) }
@@ -62,6 +65,7 @@ fn lookup_of<W: Word>(block: &[W], at: usize) -> Lookup
     }
 }
 
+#[inline(always)]
 fn optional_lookup_of<W: Word>(block: &[W], at: usize) -> Option<Lookup>
     requires { (length block.now ≡ 328) × (at + 4 ≤ 328) }
     ensures { result ≡ block_optional_lookup (from (words (map W.value block.now)) at) }
@@ -73,6 +77,7 @@ fn optional_lookup_of<W: Word>(block: &[W], at: usize) -> Option<Lookup>
     }
 }
 
+#[inline(always)]
 fn options_of<W: Word>(block: &[W]) -> Options
     requires { length block.now ≡ 328 }
     ensures { result ≡ head_options (words (map W.value block.now)) }
@@ -90,6 +95,7 @@ fn options_of<W: Word>(block: &[W]) -> Options
     }
 }
 
+#[inline(always)]
 fn lookups_of<W: Word>(block: &[W]) -> TableLookups
     requires { length block.now ≡ 328 }
     ensures { result ≡ head_lookups (words (map W.value block.now)) }
@@ -106,6 +112,7 @@ fn lookups_of<W: Word>(block: &[W]) -> TableLookups
 }
 
 // How many lights are on.
+#[inline(always)]
 pub(crate) fn light_count<W: Word>(block: &[W]) -> usize
     requires { length block.now ≡ 328 }
     ensures { result ≡ words (map W.value block.now) 1 }
@@ -115,6 +122,7 @@ pub(crate) fn light_count<W: Word>(block: &[W]) -> usize
 
 // The lighting of a block that isn't off, with these lights. The block shader reads them where it needs them, and has blank ones here.
 // Asks: what the check found, a block's length and, where `plain` is set, that no word is a NaN's pattern.
+#[inline(always)]
 pub fn lighting_with<W: Word>(block: &[W], plain: bool, lights: [Light; 8]) -> Lighting
     requires { (length block.now ≡ 328) × (plain ≡ true → nan_free (words (map W.value block.now)) ≡ true) }
     ensures { result ≡ block_lighting_with (words (map W.value block.now)) lights }

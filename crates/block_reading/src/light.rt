@@ -10,6 +10,7 @@ use lighting::{Distance, Light, LightNumber, Slot};
 use sources::words::{Word, value_at};
 
 // The vector of the three words from `at` on.
+#[inline(always)]
 fn vector_of<W: Word>(block: &[W], at: usize) -> [f32; 3]
     requires { (length block.now ≡ 328) × (at + 3 ≤ 328) }
     ensures { result ≡ block_vector (words (map W.value block.now)) at }
@@ -22,6 +23,7 @@ fn vector_of<W: Word>(block: &[W], at: usize) -> [f32; 3]
 }
 
 // The same vector, its words untested if they are plain.
+#[inline(always)]
 pub(crate) fn plain_vector<W: Word>(block: &[W], at: usize, plain: bool) -> [f32; 3]
     requires { (length block.now ≡ 328) × (at + 3 ≤ 328) × (plain ≡ true → nan_free (words (map W.value block.now)) ≡ true) }
     ensures { result ≡ block_vector (words (map W.value block.now)) at }
@@ -38,6 +40,7 @@ pub(crate) fn plain_vector<W: Word>(block: &[W], at: usize, plain: bool) -> [f32
 }
 
 // The distance of the light whose words start at `at`.
+#[inline(always)]
 fn distance_of<W: Word>(block: &[W], at: usize) -> Option<Distance>
     requires { (length block.now ≡ 328) × (at + 36 ≤ 328) }
     ensures { result ≡ block_distance (from (words (map W.value block.now)) at) }
@@ -52,6 +55,7 @@ fn distance_of<W: Word>(block: &[W], at: usize) -> Option<Distance>
     }
 }
 
+#[inline(always)]
 fn light_number(word: u32) -> LightNumber
     ensures { result ≡ record { 0 = word } }
 {
@@ -60,6 +64,7 @@ fn light_number(word: u32) -> LightNumber
 
 // The light of a slot's 36 words.
 // Asks: one of the eight slots and what the check found, a block's length and, where `plain` is set, that no word is a NaN's pattern.
+#[inline(always)]
 pub fn light_of<W: Word>(block: &[W], slot: Slot, plain: bool) -> Light
     requires { (length block.now ≡ 328) × (slot.0 < 8) × (plain ≡ true → nan_free (words (map W.value block.now)) ≡ true) }
     ensures { result ≡ block_light (from (words (map W.value block.now)) (slot_at slot)) }

@@ -5,6 +5,7 @@ ghost use Rattle.block_shading.specs.Steps.{texel_at};
 
 use sources::words::{Word, value_at};
 
+#[inline(always)]
 #[tactic(auto, unfolding(crate::specs::BlockShading::float_at))]
 fn float_at<W: Word>(words: &[W], i: usize) -> f32
     requires { i < length words.now }
@@ -13,6 +14,7 @@ fn float_at<W: Word>(words: &[W], i: usize) -> f32
     binary32::float_of(value_at(words, i))
 }
 
+#[inline(always)]
 #[tactic(auto, unfolding(crate::specs::BlockShading::four_at))]
 fn four_at<W: Word>(words: &[W], i: usize) -> [f32; 4]
     requires { (i + 4 ≤ length words.now) × (i + 4 < 0x10000000000000000) }
@@ -27,6 +29,7 @@ fn four_at<W: Word>(words: &[W], i: usize) -> [f32; 4]
 }
 
 // Asks, as those below: the fragment's 23 words.
+#[inline(always)]
 #[tactic(auto, using(crate::specs::FragmentsLaws::four_here), unfolding(crate::specs::BlockShading::quaternion_of))]
 pub fn quaternion_of<W: Word>(words: &[W], at: usize) -> [f32; 4]
     requires { (at + 23 ≤ length words.now) × (at + 23 < 0x10000000000000000) }
@@ -35,6 +38,7 @@ pub fn quaternion_of<W: Word>(words: &[W], at: usize) -> [f32; 4]
     four_at(words, at)
 }
 
+#[inline(always)]
 #[tactic(auto, using(crate::specs::FragmentsLaws::float_at_lem), unfolding(crate::specs::BlockShading::view_of))]
 pub fn view_of<W: Word>(words: &[W], at: usize) -> [f32; 3]
     requires { (at + 23 ≤ length words.now) × (at + 23 < 0x10000000000000000) }
@@ -48,6 +52,7 @@ pub fn view_of<W: Word>(words: &[W], at: usize) -> [f32; 3]
 }
 
 // The texel of one unit.
+#[inline(always)]
 #[tactic(auto, using(crate::specs::FragmentsLaws::four_at_lem))]
 pub(crate) fn texel_at<W: Word>(words: &[W], at: usize, unit: usize) -> [f32; 4]
     requires { (unit ≤ 3) × (at + 23 ≤ length words.now) × (at + 23 < 0x10000000000000000) }
@@ -57,6 +62,7 @@ pub(crate) fn texel_at<W: Word>(words: &[W], at: usize, unit: usize) -> [f32; 4]
 }
 
 // The texels of the four units.
+#[inline(always)]
 #[tactic(auto, using(crate::specs::FragmentsLaws::four_at_lem), unfolding(crate::specs::BlockShading::texels_of))]
 pub fn texels_of<W: Word>(words: &[W], at: usize) -> [[f32; 4]; 4]
     requires { (at + 23 ≤ length words.now) × (at + 23 < 0x10000000000000000) }

@@ -17,6 +17,7 @@ use sources::words::Word;
 use surface::Frame;
 
 // The lighting but its lights, which stay blank.
+#[inline(always)]
 #[tactic(auto, unfolding(crate::specs::Steps::head_of))]
 fn head_of<W: Word>(block: &[W], plain: bool) -> Lighting
     requires { (length block.now ≡ 328) × (plain ≡ true → nan_free (words (map W.value block.now)) ≡ true) }
@@ -28,6 +29,7 @@ fn head_of<W: Word>(block: &[W], plain: bool) -> Lighting
 
 // The unit quaternion of the fragment whose words start at `at`.
 // Asks: there are its 23 words.
+#[inline(always)]
 pub fn unit_quaternion_of<W: Word>(words: &[W], at: usize) -> [f32; 4]
     requires { (at + 23 ≤ length words.now) × (at + 23 < 0x10000000000000000) }
     ensures { result ≡ unit_quaternion (quaternion_of (drop at (map W.value words.now))) }
@@ -36,6 +38,7 @@ pub fn unit_quaternion_of<W: Word>(words: &[W], at: usize) -> [f32; 4]
 }
 
 // Of the fragment whose words start at `at`, with its unit quaternion.
+#[inline(always)]
 #[tactic(auto, using(crate::proofs::slots::Texels::texel), unfolding(surface::specs::Steps::frame_of, shading::specs::Steps::lighting_frame))]
 fn frame_of<W: Word>(l: Lighting, words: &[W], at: usize, unit: [f32; 4]) -> Frame
     requires { (bump_unit l.bump ≤ 3) × (at + 23 ≤ length words.now) × (at + 23 < 0x10000000000000000) × (unit ≡ unit_quaternion (quaternion_of (drop at (map W.value words.now)))) }
@@ -46,6 +49,7 @@ fn frame_of<W: Word>(l: Lighting, words: &[W], at: usize, unit: [f32; 4]) -> Fra
     surface::frame_of(l.bump, texel, l.config, l.needs_view, unit, view)
 }
 
+#[inline(always)]
 #[tactic(auto, using(crate::proofs::slots::Texels::texel), unfolding(shading::specs::Steps::lighting_shadow))]
 fn shadow_of<W: Word>(l: Lighting, words: &[W], at: usize) -> [f32; 4]
     requires { (shadow_unit l.shadow ≤ 3) × (at + 23 ≤ length words.now) × (at + 23 < 0x10000000000000000) }
@@ -57,6 +61,7 @@ fn shadow_of<W: Word>(l: Lighting, words: &[W], at: usize) -> [f32; 4]
 
 // The sums of the lit slots. `plain` says that no word of the block is a NaN's pattern. A loop beside that of `shading::sums`, which has the lights in a list: one
 // over a closure that gives a slot's light would say in its contract what each call gives, and be longer than both.
+#[inline(always)]
 #[tactic(auto, using(crate::specs::HeadLaws::few, crate::specs::HeadLaws::lit_number, crate::specs::HeadLaws::lit_light), unfolding(shading::specs::Steps::sums_by))]
 fn sum_slots<B: Word, T: Word>(
     block: &[B],
@@ -85,6 +90,7 @@ fn sum_slots<B: Word, T: Word>(
 }
 
 // The eight channels of the fragment whose words start at `at`, by the block and its head, and the fragment's unit quaternion.
+#[inline(always)]
 #[tactic(auto, using(crate::specs::HeadLaws::head_bump, crate::specs::HeadLaws::head_shadow, crate::specs::HeadLaws::head_count, crate::specs::HeadLaws::head_shades), unfolding(crate::specs::BlockShading::eight_of))]
 fn shade_one<B: Word, T: Word, F: Word>(
     block: &[B],
@@ -117,6 +123,7 @@ fn shade_one<B: Word, T: Word, F: Word>(
 }
 
 // The unit quaternion of fragment i: the first one's is there.
+#[inline(always)]
 fn unit_quaternion_at<W: Word>(fragments: &[W], i: usize, first: [f32; 4]) -> [f32; 4]
     requires { (i < length fragments.now / 23) × (length fragments.now < 0x10000000000000000) × (first ≡ unit_quaternion (quaternion_of (map W.value fragments.now))) }
     ensures { result ≡ unit_quaternion (quaternion_of (drop (23 * i) (map W.value fragments.now))) }

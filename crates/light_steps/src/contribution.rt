@@ -8,6 +8,7 @@ use crate::{terms, values};
 use lighting::Light;
 use surface::Directions;
 
+#[inline(always)]
 #[tactic(auto, unfolding(crate::specs::Steps::shadow_for))]
 fn shadow_for(shadowed: bool, shadow: [f32; 4]) -> [f32; 3]
     ensures { result ≡ shadow_for shadowed shadow }
@@ -19,6 +20,7 @@ fn shadow_for(shadowed: bool, shadow: [f32; 4]) -> [f32; 3]
     }
 }
 
+#[inline(always)]
 #[tactic(auto, unfolding(crate::specs::Steps::added_of))]
 fn added(sum: [f32; 4], terms: [f32; 3], shadow: [f32; 3], alpha: f32) -> [f32; 4]
     ensures { result ≡ added_of sum terms shadow alpha }
@@ -32,6 +34,7 @@ fn added(sum: [f32; 4], terms: [f32; 3], shadow: [f32; 3], alpha: f32) -> [f32; 
 }
 
 // What an alpha is after a light. It is taken from two by its place: the compiler would branch on `applied`, which is another in the last slot alone.
+#[inline(always)]
 fn alpha_after(applied: bool, before: f32, fresnel: f32) -> f32
     ensures { result ≡ cond applied fresnel before }
 {
@@ -40,6 +43,7 @@ fn alpha_after(applied: bool, before: f32, fresnel: f32) -> f32
 }
 
 // A sum with a light's terms. Fresnel takes the place of alpha where it is applied.
+#[inline(always)]
 #[tactic(auto, unfolding(crate::specs::Steps::summed_of))]
 fn summed(
     sum: [f32; 4],
@@ -57,6 +61,7 @@ fn summed(
 
 // Both sums with a light's terms. `applied` says whether fresnel is. A light that no shadow falls on has a way of its own: its factors are the constant 1, and
 // the compiler leaves the products out.
+#[inline(always)]
 fn with_terms(
     sums: Sums,
     diffuse: [f32; 3],
@@ -113,6 +118,7 @@ fn with_terms(
 }
 
 // Both sums with a light's contribution, from its values.
+#[inline(always)]
 #[tactic(auto, unfolding(crate::specs::Steps::with_values, crate::specs::Steps::with_values_by))]
 pub(crate) fn with_values(
     sums: Sums,
@@ -150,6 +156,7 @@ pub(crate) fn with_values(
 
 // The same for a light that reads no table but its distance table: every other value is 1 and fresnel is not applied, and the compiler leaves the products and
 // the alphas out. It would leave them in if this called `with_values`, which is too long to be inlined for two callers: so its lines stand twice.
+#[inline(always)]
 #[tactic(auto, unfolding(crate::specs::Steps::with_values, crate::specs::Steps::with_values_by))]
 pub(crate) fn with_unread(
     sums: Sums,

@@ -7,6 +7,7 @@ use crate::types::Reading;
 use binary32::Place;
 use lighting::{Distance, Light};
 
+#[inline(always)]
 #[tactic(auto, unfolding(crate::specs::Steps::distance_place))]
 fn distance_place(distance: Distance, norm: f32) -> Place
     ensures { result ≡ distance_place distance norm }
@@ -19,6 +20,7 @@ fn distance_place(distance: Distance, norm: f32) -> Place
 }
 
 // Of a light whose ray has this norm.
+#[inline(always)]
 #[tactic(auto, unfolding(crate::specs::Steps::distance_reading_by))]
 pub(crate) fn distance_reading(light: Light, norm: f32) -> Option<Reading>
     ensures { result ≡ distance_reading_by light.distance light.number norm }

@@ -7,6 +7,7 @@ use binary32::Place;
 use sources::words::{Word, value_at};
 
 // What a table gives at a place.
+#[inline(always)]
 #[tactic(auto, unfolding(tables::specs::Tables::table_lookup))]
 fn fetch<W: Word>(tables: &[W], reading: Reading) -> f32
     requires { length tables.now ≡ 12288 }
@@ -24,6 +25,7 @@ fn fetch<W: Word>(tables: &[W], reading: Reading) -> f32
 }
 
 // Asks: tables of 12,288 words, which the caller has counted once for all its reads.
+#[inline(always)]
 #[tactic(auto, unfolding(crate::specs::Steps::read_value))]
 pub(crate) fn read<W: Word>(tables: &[W], reading: Option<Reading>) -> f32
     requires { length tables.now ≡ 12288 }
@@ -36,6 +38,7 @@ pub(crate) fn read<W: Word>(tables: &[W], reading: Option<Reading>) -> f32
 }
 
 // Asks: as `read`.
+#[inline(always)]
 #[tactic(auto, unfolding(crate::specs::Steps::read_all))]
 pub(crate) fn read_all<W: Word>(tables: &[W], readings: Readings, distance: f32) -> EntryValues
     requires { length tables.now ≡ 12288 }

@@ -2,6 +2,7 @@
 ghost use Rattle.std.specs.Prelude.{◌≡◌};
 ghost use Rattle.light_steps.specs.Steps.{facing_of, highlights_of, factor_by};
 
+#[inline(always)]
 #[tactic(auto, unfolding(crate::specs::Steps::facing_of))]
 pub(crate) fn facing_of(twosided: bool, x: f32) -> f32
     ensures { result ≡ facing_of twosided x }
@@ -13,6 +14,7 @@ pub(crate) fn facing_of(twosided: bool, x: f32) -> f32
     }
 }
 
+#[inline(always)]
 #[tactic(auto, unfolding(crate::specs::Steps::highlights_of))]
 pub(crate) fn highlights_of(clamp: bool, facing: f32) -> f32
     ensures { result ≡ highlights_of clamp facing }
@@ -21,6 +23,7 @@ pub(crate) fn highlights_of(clamp: bool, facing: f32) -> f32
 }
 
 // The geometric factor, from the dot of the half vector with itself.
+#[inline(always)]
 #[tactic(auto, unfolding(crate::specs::Steps::factor_by))]
 pub(crate) fn factor_by(facing: f32, squared: f32) -> f32
     ensures { result ≡ factor_by facing squared }

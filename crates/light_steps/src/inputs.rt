@@ -4,6 +4,7 @@ ghost use Rattle.light_steps.specs.Steps.{along_tangent, inputs_of};
 
 use surface::{Directions, Frame};
 
+#[inline(always)]
 #[tactic(auto, unfolding(crate::specs::Steps::along_tangent))]
 fn along_tangent(config: u32, normal: [f32; 3], tangent: [f32; 3], half: [f32; 3]) -> f32
     ensures { result ≡ along_tangent config normal tangent half }
@@ -16,6 +17,7 @@ fn along_tangent(config: u32, normal: [f32; 3], tangent: [f32; 3], half: [f32; 3
     }
 }
 
+#[inline(always)]
 #[tactic(auto, unfolding(crate::specs::Steps::inputs_by, crate::specs::Steps::inputs_of))]
 pub(crate) fn inputs_of(
     config: u32,

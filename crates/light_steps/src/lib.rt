@@ -23,6 +23,7 @@ use sources::words::Word;
 use surface::{Directions, Frame};
 
 // What a light whose ray has this norm reads from its distance table.
+#[inline(always)]
 fn distance_of<W: Word>(tables: &[W], light: Light, norm: f32) -> f32
     requires { length tables.now ≡ 12288 }
     ensures { result ≡ read_value (map W.value tables.now) (distance_reading_by light.distance light.number norm) }
@@ -31,6 +32,7 @@ fn distance_of<W: Word>(tables: &[W], light: Light, norm: f32) -> f32
 }
 
 // What a light reads from the tables, given its distance.
+#[inline(always)]
 #[tactic(auto, using(crate::specs::ReadingsLaws::read_in_steps))]
 fn values_of<W: Word>(
     tables: &[W],
@@ -51,6 +53,7 @@ fn values_of<W: Word>(
 
 // The directions of a light without tables, of which only a geometric factor reads the half vector: made in that branch, it is worked out for such a light
 // alone.
+#[inline(always)]
 #[tactic(auto, unfolding(crate::specs::Steps::unread_directions))]
 fn unread_directions(light: Light, vector: [f32; 3], frame: Frame, needed: bool) -> Directions
     ensures { result ≡ unread_directions light vector frame needed }
@@ -67,6 +70,7 @@ fn unread_directions(light: Light, vector: [f32; 3], frame: Frame, needed: bool)
 
 // The sums with one light's contribution. `last` is the last slot lit, where fresnel is applied if there is its lookup.
 // Asks: tables of 12,288 words and a light number below 8, which the caller has looked at once for all its lights and fragments.
+#[inline(always)]
 #[tactic(auto, using(crate::proofs::Rays::directions_is, crate::proofs::Rays::distance_is, crate::proofs::Rays::unread_is, crate::specs::ReadingsLaws::read_none, crate::specs::ReadingsLaws::none_applied), unfolding(crate::specs::Steps::step_of))]
 pub fn step<W: Word>(
     tables: &[W],

@@ -7,6 +7,7 @@ use crate::types::Reading;
 use binary32::Place;
 use lighting::{LightNumber, Lookup};
 
+#[inline(always)]
 #[tactic(auto, unfolding(crate::specs::Steps::input_of))]
 fn input_of(lookup: Lookup, inputs: [f32; 8]) -> f32
     ensures { result ≡ input_of lookup inputs }
@@ -14,6 +15,7 @@ fn input_of(lookup: Lookup, inputs: [f32; 8]) -> f32
     inputs.get(lookup.input as usize).copied().unwrap_or(0.0)
 }
 
+#[inline(always)]
 #[tactic(auto, unfolding(crate::specs::Steps::place_of))]
 fn place_of(absolute: bool, twosided: bool, x: f32) -> Place
     ensures { result ≡ place_of absolute twosided x }
@@ -26,6 +28,7 @@ fn place_of(absolute: bool, twosided: bool, x: f32) -> Place
 }
 
 // The table of a light's number, of eight tables from `first` on.
+#[inline(always)]
 #[tactic(auto, unfolding(crate::specs::Steps::table_for))]
 pub(crate) fn table_for(first: u32, number: LightNumber) -> u32
     requires { first ≤ 16 }
@@ -34,6 +37,7 @@ pub(crate) fn table_for(first: u32, number: LightNumber) -> u32
     first + (number.0 % 8) as u32
 }
 
+#[inline(always)]
 #[tactic(auto, unfolding(crate::specs::Steps::reading_by))]
 pub(crate) fn reading_by(table: u32, lookup: Lookup, twosided: bool, inputs: [f32; 8]) -> Reading
     ensures { result ≡ reading_by table lookup twosided inputs }
@@ -44,6 +48,7 @@ pub(crate) fn reading_by(table: u32, lookup: Lookup, twosided: bool, inputs: [f3
     }
 }
 
+#[inline(always)]
 #[tactic(auto, unfolding(crate::specs::Steps::reading_if))]
 pub(crate) fn reading_if(
     table: u32,

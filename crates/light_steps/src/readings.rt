@@ -11,6 +11,7 @@ use lighting::tables::{
 use lighting::{Light, Lookup};
 use surface::{Directions, Frame};
 
+#[inline(always)]
 #[tactic(auto, unfolding(crate::specs::Steps::spot_reading))]
 fn spot_reading(light: Light, lookup: Lookup, inputs: [f32; 8]) -> Option<Reading>
     ensures { result ≡ spot_reading light lookup inputs }
@@ -24,6 +25,7 @@ fn spot_reading(light: Light, lookup: Lookup, inputs: [f32; 8]) -> Option<Readin
 }
 
 // Only the last slot lit reads fresnel.
+#[inline(always)]
 #[tactic(auto, unfolding(crate::specs::Steps::fresnel_reading))]
 fn fresnel_reading(
     last: bool,
@@ -40,6 +42,7 @@ fn fresnel_reading(
     }
 }
 
+#[inline(always)]
 #[tactic(auto, unfolding(crate::specs::Steps::readings_by))]
 fn readings_by(lookups: LightingLookups, light: Light, inputs: [f32; 8], last: bool) -> Readings
     ensures { result ≡ readings_by lookups light inputs last }
@@ -56,6 +59,7 @@ fn readings_by(lookups: LightingLookups, light: Light, inputs: [f32; 8], last: b
     }
 }
 
+#[inline(always)]
 #[tactic(auto, unfolding(crate::specs::Steps::readings_of))]
 pub(crate) fn readings_of(
     lookups: LightingLookups,

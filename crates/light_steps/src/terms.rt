@@ -6,6 +6,7 @@ use crate::facing::{factor_by, highlights_of};
 use crate::types::Values;
 use lighting::Light;
 
+#[inline(always)]
 #[tactic(auto, unfolding(crate::specs::Steps::diffuse_of))]
 pub(crate) fn diffuse(light: Light, facing: f32, distance: f32, spot: f32) -> [f32; 3]
     ensures { result ≡ diffuse_of light facing distance spot }
@@ -17,6 +18,7 @@ pub(crate) fn diffuse(light: Light, facing: f32, distance: f32, spot: f32) -> [f
     ]
 }
 
+#[inline(always)]
 #[tactic(auto, unfolding(crate::specs::Steps::times_if))]
 fn times_if(geometric: bool, v: [f32; 3], factor: f32) -> [f32; 3]
     ensures { result ≡ times_if geometric v factor }
@@ -28,6 +30,7 @@ fn times_if(geometric: bool, v: [f32; 3], factor: f32) -> [f32; 3]
     }
 }
 
+#[inline(always)]
 #[tactic(auto, unfolding(crate::specs::Steps::reflected_of))]
 fn reflected(specular: [f32; 3], values: Values) -> [f32; 3]
     ensures { result ≡ reflected_of specular values }
@@ -39,6 +42,7 @@ fn reflected(specular: [f32; 3], values: Values) -> [f32; 3]
     ]
 }
 
+#[inline(always)]
 #[tactic(auto, unfolding(crate::specs::Steps::specular_by))]
 fn specular_by(
     first: [f32; 3],
@@ -57,6 +61,7 @@ fn specular_by(
 }
 
 // A light with neither geometric flag has a way of its own: so the compiler works out no factor and no product with it.
+#[inline(always)]
 #[tactic(auto, unfolding(crate::specs::Steps::specular_of, crate::specs::Steps::specular0_of, crate::specs::Steps::specular1_of, crate::specs::Steps::factor_of, crate::specs::Steps::times_if))]
 pub(crate) fn specular(
     light: Light,

@@ -6,6 +6,7 @@ use crate::types::{EntryValues, LightingLookups, Values};
 use lighting::{Light, Lookup};
 
 // Whether a light reads any table but its distance table.
+#[inline(always)]
 #[tactic(auto, unfolding(crate::specs::Steps::reads_tables))]
 pub(crate) fn reads_tables(lookups: LightingLookups, light: Light) -> bool
     ensures { result ≡ reads_tables lookups light }
@@ -20,12 +21,14 @@ pub(crate) fn reads_tables(lookups: LightingLookups, light: Light) -> bool
 }
 
 // Whether fresnel is applied: in the last slot lit, if there is its lookup.
+#[inline(always)]
 pub(crate) fn applies_fresnel(lookups: LightingLookups, last: bool) -> bool
     ensures { result ≡ (last && is_some lookups.fresnel) }
 {
     last && lookups.fresnel.is_some()
 }
 
+#[inline(always)]
 #[tactic(auto, unfolding(crate::specs::Steps::scaled_if))]
 fn scaled_if(lookup: Option<Lookup>, x: f32, missing: f32) -> f32
     ensures { result ≡ scaled_if lookup x missing }
@@ -33,6 +36,7 @@ fn scaled_if(lookup: Option<Lookup>, x: f32, missing: f32) -> f32
     lookup.map_or(missing, |lookup| lookup.scale * x)
 }
 
+#[inline(always)]
 #[tactic(auto, unfolding(crate::specs::Steps::spot_scaled))]
 fn spot_scaled(light: Light, lookup: Lookup, x: f32) -> f32
     ensures { result ≡ spot_scaled light lookup x }
@@ -44,6 +48,7 @@ fn spot_scaled(light: Light, lookup: Lookup, x: f32) -> f32
     }
 }
 
+#[inline(always)]
 #[tactic(auto, unfolding(crate::specs::Steps::fresnel_scaled))]
 fn fresnel_scaled(last: bool, lookup: Option<Lookup>, x: f32) -> f32
     ensures { result ≡ fresnel_scaled last lookup x }
@@ -52,6 +57,7 @@ fn fresnel_scaled(last: bool, lookup: Option<Lookup>, x: f32) -> f32
 }
 
 // The values, from what the entries of the readings gave. Green and blue fall back to red.
+#[inline(always)]
 #[tactic(auto, unfolding(crate::specs::Steps::values_from))]
 pub(crate) fn values_from(
     lookups: LightingLookups,
@@ -75,6 +81,7 @@ pub(crate) fn values_from(
 }
 
 // The values of a light that reads no table but its distance table.
+#[inline(always)]
 #[tactic(auto, unfolding(crate::specs::Steps::unread))]
 pub(crate) fn unread(distance: f32) -> Values
     ensures { result ≡ unread_of distance }

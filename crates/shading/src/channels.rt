@@ -4,6 +4,7 @@ ghost use Rattle.shading.specs.Steps.{shadowed_alpha, finish_of};
 
 use light_steps::types::Sums;
 
+#[inline(always)]
 #[tactic(auto, unfolding(crate::specs::Steps::shadowed_alpha))]
 fn shadowed_alpha(shadowed: bool, alpha: f32, shadow: f32) -> f32
     ensures { result ≡ shadowed_alpha shadowed alpha shadow }
@@ -12,6 +13,7 @@ fn shadowed_alpha(shadowed: bool, alpha: f32, shadow: f32) -> f32
 }
 
 // The eight channels in the printed order.
+#[inline(always)]
 #[tactic(auto, unfolding(crate::specs::Steps::finish_of))]
 pub(crate) fn finish(
     sums: Sums,

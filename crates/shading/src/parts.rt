@@ -8,6 +8,7 @@ use light_steps::types::{LightingLookups, Settings, Sums};
 use lighting::Lighting;
 use surface::Frame;
 
+#[inline(always)]
 #[tactic(auto, unfolding(crate::specs::Steps::lighting_lookups))]
 pub fn lookups_of(l: Lighting) -> LightingLookups
     ensures { result ≡ lighting_lookups l }
@@ -26,6 +27,7 @@ pub fn lookups_of(l: Lighting) -> LightingLookups
 }
 
 // The shadow applies to nothing where there is none.
+#[inline(always)]
 #[tactic(auto, unfolding(crate::specs::Steps::lighting_settings, crate::specs::Shade::is_some_and))]
 pub fn settings_of(l: Lighting, shadow: [f32; 4]) -> Settings
     ensures { result ≡ lighting_settings l shadow }
@@ -40,6 +42,7 @@ pub fn settings_of(l: Lighting, shadow: [f32; 4]) -> Settings
     }
 }
 
+#[inline(always)]
 #[tactic(auto, using(block::proofs::PackedLaws::range_bump), unfolding(surface::specs::Steps::frame_of, crate::specs::Steps::lighting_frame))]
 pub(crate) fn frame_of(
     l: Lighting,
@@ -55,6 +58,7 @@ pub(crate) fn frame_of(
     surface::frame_of(l.bump, texel, l.config, l.needs_view, unit, view)
 }
 
+#[inline(always)]
 #[tactic(auto, using(block::proofs::PackedLaws::range_shadow), unfolding(crate::specs::Steps::lighting_shadow))]
 pub(crate) fn shadow_of(l: Lighting, texels: [[f32; 4]; 4]) -> [f32; 4]
     requires { in_range l ≡ true }
@@ -65,6 +69,7 @@ pub(crate) fn shadow_of(l: Lighting, texels: [[f32; 4]; 4]) -> [f32; 4]
 }
 
 // The channels from the sums.
+#[inline(always)]
 #[tactic(auto, unfolding(crate::specs::Steps::finished_of, crate::specs::Shade::is_some_and))]
 pub fn finished(l: Lighting, sums: Sums, shadow: [f32; 4]) -> [u32; 8]
     ensures { result ≡ finished_of l sums shadow }

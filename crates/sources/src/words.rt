@@ -14,6 +14,7 @@ pub trait Word: Copy {
 impl Word for u32 {
     ghost value = { λ n. n };
 
+    #[inline(always)]
     fn value(self) -> u32 {
         self
     }
@@ -23,6 +24,7 @@ impl Word for u32 {
 impl Word for [u8; 4] {
     ghost value = { word_of };
 
+    #[inline(always)]
     #[tactic(auto, unfolding(crate::specs::Sources::word_of))]
     fn value(self) -> u32 {
         u32::from_le_bytes(self)
@@ -30,6 +32,7 @@ impl Word for [u8; 4] {
 }
 
 // Bytes as words; what is left over at the end is no word.
+#[inline(always)]
 pub fn words_of(bytes: &[u8]) -> &[[u8; 4]]
     ensures { map word_of result.now ≡ words_of bytes.now }
 {
@@ -38,6 +41,7 @@ pub fn words_of(bytes: &[u8]) -> &[[u8; 4]]
 
 // Word number `at`.
 // Asks: there is such a word; the caller has counted them once for all its reads.
+#[inline(always)]
 pub fn value_at<W: Word>(words: &[W], at: usize) -> u32
     requires { at < length words.now }
     ensures { result ≡ get_or (map W.value words.now) at 0 }

@@ -4,12 +4,14 @@ ghost use Rattle.surface.specs.Steps.{perturbed as perturbed_of, rebuilt_z, rebu
 
 use lighting::Bump;
 
+#[inline(always)]
 fn perturbed(t: [f32; 4]) -> [f32; 3]
     ensures { result ≡ perturbed_of t }
 {
     [t[0] * 2.0 - 1.0, t[1] * 2.0 - 1.0, t[2] * 2.0 - 1.0]
 }
 
+#[inline(always)]
 #[tactic(auto, unfolding(crate::specs::Steps::rebuilt_z))]
 fn rebuilt_z(n: [f32; 3]) -> f32
     ensures { result ≡ rebuilt_z n }
@@ -17,6 +19,7 @@ fn rebuilt_z(n: [f32; 3]) -> f32
     root::root(binary32::order::positive(1.0 - (n[0] * n[0] + n[1] * n[1])))
 }
 
+#[inline(always)]
 #[tactic(auto, unfolding(crate::specs::Steps::rebuilt))]
 fn rebuilt(rebuild: bool, n: [f32; 3]) -> [f32; 3]
     ensures { result ≡ rebuilt_of rebuild n }
@@ -29,6 +32,7 @@ fn rebuilt(rebuild: bool, n: [f32; 3]) -> [f32; 3]
 }
 
 // From the texel of the bump's unit.
+#[inline(always)]
 #[tactic(auto, unfolding(crate::specs::Steps::surface_normal))]
 pub(crate) fn surface_normal(bump: Bump, texel: [f32; 4]) -> [f32; 3]
     ensures { result ≡ surface_normal bump texel }
@@ -41,6 +45,7 @@ pub(crate) fn surface_normal(bump: Bump, texel: [f32; 4]) -> [f32; 3]
 }
 
 // From the texel of the bump's unit.
+#[inline(always)]
 #[tactic(auto, unfolding(crate::specs::Steps::surface_tangent))]
 pub(crate) fn surface_tangent(bump: Bump, texel: [f32; 4]) -> [f32; 3]
     ensures { result ≡ surface_tangent bump texel }

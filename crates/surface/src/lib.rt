@@ -35,6 +35,7 @@ pub struct Directions {
     pub half: [f32; 3],
 }
 
+#[inline(always)]
 #[tactic(auto, unfolding(crate::specs::Steps::quaternion_norm))]
 fn quaternion_norm(q: [f32; 4]) -> f32
     ensures { result ≡ quaternion_norm q }
@@ -43,6 +44,7 @@ fn quaternion_norm(q: [f32; 4]) -> f32
 }
 
 // A norm that isn't above zero, or is NaN, gives 0, 0, 0, 1.
+#[inline(always)]
 #[tactic(auto, unfolding(crate::specs::Steps::quaternion_over, crate::specs::Steps::unit_quaternion))]
 pub fn unit_quaternion(q: [f32; 4]) -> [f32; 4]
     ensures { result ≡ unit_quaternion q }
@@ -56,6 +58,7 @@ pub fn unit_quaternion(q: [f32; 4]) -> [f32; 4]
 }
 
 // Only configuration 8 has a table that reads the tangent.
+#[inline(always)]
 #[tactic(auto, unfolding(crate::specs::Steps::tangent_of))]
 fn tangent(config: u32, quaternion: [f32; 4], surface: [f32; 3]) -> [f32; 3]
     ensures { result ≡ tangent_of config quaternion surface }
@@ -68,6 +71,7 @@ fn tangent(config: u32, quaternion: [f32; 4], surface: [f32; 3]) -> [f32; 3]
 }
 
 // A vector that nothing reads is left at zero.
+#[inline(always)]
 #[tactic(auto, unfolding(crate::specs::Steps::unit_if))]
 pub fn unit_if(needed: bool, v: [f32; 3]) -> [f32; 3]
     ensures { result ≡ unit_if needed v }
@@ -80,6 +84,7 @@ pub fn unit_if(needed: bool, v: [f32; 3]) -> [f32; 3]
 }
 
 // From the texel of the bump's unit and the unit quaternion.
+#[inline(always)]
 pub fn frame_of(
     bump: Bump,
     texel: [f32; 4],

@@ -7,6 +7,7 @@ ghost use Rattle.surface.specs.Steps.{half_of, directions_by, ray_to};
 use crate::{Directions, Frame, Ray};
 use lighting::Light;
 
+#[inline(always)]
 fn norm(v: [f32; 3]) -> f32
     ensures { result ≡ root_of (dot_of v v) }
 {
@@ -14,6 +15,7 @@ fn norm(v: [f32; 3]) -> f32
 }
 
 // Each sum, root and quotient stands in the branch that needs it: so the compiler works none of them out for a directional light.
+#[inline(always)]
 #[tactic(auto, unfolding(crate::specs::Steps::ray_to, crate::specs::Steps::norm_if, crate::specs::Steps::light_vector, lighting::specs::Lighting::is_scaled, vectors::specs::Vectors::normalized_of))]
 pub fn ray_to(light: Light, view: [f32; 3]) -> Ray
     ensures { result ≡ ray_to light view }
@@ -37,6 +39,7 @@ pub fn ray_to(light: Light, view: [f32; 3]) -> Ray
     }
 }
 
+#[inline(always)]
 #[tactic(auto, unfolding(crate::specs::Steps::half_of))]
 fn half(needed: bool, view: [f32; 3], light: [f32; 3]) -> [f32; 3]
     ensures { result ≡ half_of needed view light }
@@ -48,6 +51,7 @@ fn half(needed: bool, view: [f32; 3], light: [f32; 3]) -> [f32; 3]
     }
 }
 
+#[inline(always)]
 pub fn directions_of(vector: [f32; 3], frame: Frame, needed: bool) -> Directions
     ensures { result ≡ directions_by vector frame needed }
 {

@@ -4,6 +4,7 @@ ghost use Rattle.surface.specs.Steps.{inverted as inverted_of, shadow_texel};
 
 use lighting::Shadow;
 
+#[inline(always)]
 #[tactic(auto, unfolding(crate::specs::Steps::inverted))]
 fn inverted(invert: bool, t: [f32; 4]) -> [f32; 4]
     ensures { result ≡ inverted_of invert t }
@@ -16,6 +17,7 @@ fn inverted(invert: bool, t: [f32; 4]) -> [f32; 4]
 }
 
 // From the texel of the shadow's unit.
+#[inline(always)]
 #[tactic(auto, unfolding(crate::specs::Steps::shadow_texel))]
 pub fn shadow_texel(shadow: Option<Shadow>, texel: [f32; 4]) -> [f32; 4]
     ensures { result ≡ shadow_texel shadow texel }
