@@ -1,5 +1,7 @@
 // The tables and what their calls answer: the register write, with the upload of table data, is in `registers`, a list of writes in `lists`, restore and save in
 // `copies`, what an entry gives in `entries`.
+// File, tables and generation are three parameters: C hands them over one by one, the definitions have three, and of a struct with two `&mut` slices
+// each contract would have to say twice that it holds the same slice as before.
 #![tactic(auto)]
 
 pub mod copies;

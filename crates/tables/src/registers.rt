@@ -21,8 +21,13 @@ fn moved(index: u32) -> u32
 
 // Takes a word of table data, into the table and entry that the index register names, which then moves on to the next entry; the generation afterwards.
 #[tactic(auto, unfolding(crate::specs::Tables::changes, crate::specs::Tables::stored, crate::specs::Tables::same_entry, crate::specs::Tables::place, crate::specs::Tables::put_entry, crate::specs::Tables::last), using(crate::proofs::WriteLaws::upload_same, crate::proofs::WriteLaws::upload_refused, crate::proofs::WriteLaws::upload_changed))]
-fn upload(file: &mut [u32], tables: &mut [u32], generation: u64, value: u32) -> Result<u64, Refusal>
-    requires { (474 ≤ length file.old) × (length tables.old ≡ 12288) }
+fn upload(
+    file: &mut [u32],
+    tables: &mut [u32; 12288],
+    generation: u64,
+    value: u32,
+) -> Result<u64, Refusal>
+    requires { 474 ≤ length file.old }
     ensures { wrote_of result generation file.new tables.new ≡ upload_of file.old tables.old generation value }
 {
     let index = file[REG_TABLE_INDEX];
@@ -46,8 +51,30 @@ fn upload(file: &mut [u32], tables: &mut [u32], generation: u64, value: u32) -> 
     Ok(raised)
 }
 
-// A write to a register: table data goes into the tables, any other word into the file; the generation afterwards.
+// A write past the refusals by length.
 #[tactic(auto, unfolding(crate::specs::Tables::write_if, crate::specs::Tables::is_data, refusals::specs::Refusals::file_refusal, refusals::specs::Refusals::tables_refusal, refusals::specs::Refusals::register_refusal))]
+fn write_whole(
+    file: &mut [u32],
+    tables: &mut [u32; 12288],
+    generation: u64,
+    register: u32,
+    value: u32,
+) -> Result<u64, Refusal>
+    requires { 474 ≤ length file.old }
+    ensures { wrote_of result generation file.new tables.new ≡ write_of file.old tables.old generation register value }
+{
+    if register >= 474 {
+        return Err(Refusal::HighRegister);
+    }
+    if (REG_TABLE_DATA..=REG_TABLE_DATA_END).contains(&register) {
+        return upload(file, tables, generation, value);
+    }
+    file[register as usize] = value;
+    Ok(generation)
+}
+
+// A write to a register: table data goes into the tables, any other word into the file; the generation afterwards.
+#[tactic(auto, unfolding(crate::specs::Tables::write_if, refusals::specs::Refusals::file_refusal, refusals::specs::Refusals::tables_refusal))]
 pub fn write(
     file: &mut [u32],
     tables: &mut [u32],
@@ -60,15 +87,8 @@ pub fn write(
     if file.len() < 474 {
         return Err(Refusal::ShortFile);
     }
-    if tables.len() != 12288 {
-        return Err(Refusal::WrongTables);
+    match tables.as_mut_array() {
+        Some(tables) => write_whole(file, tables, generation, register, value),
+        None => Err(Refusal::WrongTables),
     }
-    if register >= 474 {
-        return Err(Refusal::HighRegister);
-    }
-    if (REG_TABLE_DATA..=REG_TABLE_DATA_END).contains(&register) {
-        return upload(file, tables, generation, value);
-    }
-    file[register as usize] = value;
-    Ok(generation)
 }
