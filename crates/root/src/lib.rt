@@ -22,7 +22,8 @@ fn guess(z: u32) -> u64
     (height * 32768 + slope * (d as u64) + bend * (s as u64)) / 2097152
 }
 
-// The whole number nearest to the root of w, looked for from e on.
+// The whole number nearest to the root of w, looked for from e on. The loops look for a number and count no index: `find` over a range would
+// need an end beyond which none is looked for, and gives an `Option` of what is always there.
 fn stepped(w: u64, e: u64) -> u64
     requires { (0 < w) × (w < 2 ^ 48) × (e < 2 ^ 25) }
     ensures { Near w result }
