@@ -56,7 +56,8 @@ fn hand_over(
     }
 }
 
-// One body, by its kind: `copied` are the copy's tables.
+// One body, by its kind: `copied` are the copy's tables. The kind is the number that the definitions and a capture's words have, of which any is taken.
+// The slices go one by one: of a struct with four of them each contract would have to say four times that it holds the same slice as before.
 // Asks: room for the lines: a capture's run has made it.
 pub fn run_body(
     kind: u32,

@@ -21,7 +21,7 @@ fn write_one(
     tables::registers::write(file, tables, generation, register, value).unwrap_or(generation)
 }
 
-// A kind 1 body.
+// A kind 1 body. Not `tables::lists::write_each`, which stops at a write that is refused: the calls of a body go on after one.
 pub(crate) fn write_pairs(
     file: &mut [u32],
     tables: &mut [u32],
