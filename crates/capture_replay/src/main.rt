@@ -1,7 +1,7 @@
 // Runs a list of captures and writes what each prints, under its number. The file `stdout` has the Rust module's lines.
 #![tactic(auto)]
 
-ghost use Rattle.std.specs.Prelude.{◌+◌, ◌<◌, ◌≤◌, length};
+ghost use Rattle.std.specs.Prelude.{◌^◌, ◌<◌};
 
 // What an entry of the list says of the capture that is being put together.
 enum Entry {
@@ -14,8 +14,8 @@ enum Entry {
     Run,
 }
 
-impl Entry {
-    fn from_number(number: u32) -> Entry {
+impl From<u32> for Entry {
+    fn from(number: u32) -> Entry {
         match number {
             0 => Entry::Words,
             2 => Entry::MadeNumbers,
@@ -25,46 +25,9 @@ impl Entry {
     }
 }
 
-// How many bytes of the capture are there, the place in the list, and how many captures were run.
-#[derive(Clone, Copy)]
-struct Place {
-    size: usize,
-    next: usize,
-    ran: u64,
-}
-
 // A word that isn't there counts as 0.
 fn word_of(words: &[u32], at: usize) -> u32 {
     words.get(at).copied().unwrap_or(0)
-}
-
-// A byte at the end of the capture's; the place after it. What the buffer can't take is left out.
-fn put_byte(input: &mut [u8], at: usize, b: u8) -> usize {
-    if at < input.len() {
-        input[at] = b;
-        return at + 1;
-    }
-    at
-}
-
-// A word's four bytes, the lowest first.
-fn put_word(input: &mut [u8], at: usize, word: u32) -> usize {
-    let mut size = at;
-    for byte in word.to_le_bytes() {
-        size = put_byte(input, size, byte);
-    }
-    size
-}
-
-// So many words of the list.
-fn put_words(input: &mut [u8], at: usize, words: &[u32], from: usize, count: u32) -> usize
-    requires { from ≤ length words.now + 2 }
-{
-    let mut size = at;
-    for i in 0..count {
-        size = put_word(input, size, word_of(words, from + i as usize));
-    }
-    size
 }
 
 // Each number follows from the one before.
@@ -77,15 +40,57 @@ fn number_of(x: u32) -> u32 {
     x / 0x8000_0000 * 0x8000_0000 + 0x3F00_0000 + x / 0x100 % 0x80_0000
 }
 
-// So many words that follow from a seed, as they are or as numbers.
-fn make_words(input: &mut [u8], at: usize, numbers: bool, count: u32, seed: u32) -> usize {
-    let mut size = at;
-    let mut x = seed;
-    for _ in 0..count {
-        x = following(x);
-        size = put_word(input, size, if numbers { number_of(x) } else { x });
+// The capture that is being put together, of which `size` bytes are there, and how many captures were run.
+#[derive(Drop)]
+struct Captures<'a> {
+    bytes: &'a mut [u8],
+    size: usize,
+    ran: u64,
+}
+
+impl Captures<'_> {
+    // A byte at the capture's end. What the buffer can't take is left out.
+    fn put_byte(&mut self, b: u8) {
+        if self.size < self.bytes.len() {
+            self.bytes[self.size] = b;
+            self.size += 1;
+        }
     }
-    size
+
+    // A word's four bytes, the lowest first.
+    fn put_word(&mut self, word: u32) {
+        for byte in word.to_le_bytes() {
+            self.put_byte(byte);
+        }
+    }
+
+    // So many words of the entry that the words begin with, which follow its first two.
+    fn put_words(&mut self, words: &[u32], count: u32) {
+        for i in 0..count as usize {
+            self.put_word(word_of(words, 2 + i));
+        }
+    }
+
+    // So many words that follow from a seed, each put as what `word` makes of it.
+    fn make_words<F: Fn(u32) -> u32 + Drop>(&mut self, count: u32, seed: u32, word: F)
+        requires { F.IsAlwaysCallable word }
+    {
+        let mut x = seed;
+        for _ in 0..count {
+            x = following(x);
+            self.put_word(word(x));
+        }
+    }
+
+    // Runs the first `size` bytes, if there is room for so many; the next capture starts anew.
+    fn run(&mut self, rt: &impl Print, size: usize) {
+        let number = self.ran.saturating_add(1);
+        self.ran = number;
+        self.size = 0;
+        if let Some(input) = self.bytes.get(..size) {
+            run(rt, input, number);
+        }
+    }
 }
 
 fn run(rt: &impl Print, input: &[u8], number: u64) {
@@ -96,65 +101,49 @@ fn run(rt: &impl Print, input: &[u8], number: u64) {
     let _ = rt.write_all(&output[..size]);
 }
 
-// The first `size` bytes.
-fn run_first(rt: &impl Print, input: &[u8], size: usize, number: u64) {
-    if size <= input.len() {
-        run(rt, &input[..size], number);
-    }
-}
-
-// One entry of the list.
-fn step(rt: &impl Print, words: &[u32], input: &mut [u8], place: Place) -> Place
-    requires { place.next < length words.now }
-    ensures { place.next < result.next }
+// The entry that the words begin with; how many words it takes.
+fn step(rt: &impl Print, words: &[u32], captures: &mut Captures) -> usize
+    ensures { (0 < result) × (result < 2 ^ 33) }
 {
-    let Place { size, next, ran } = place;
-    let count = word_of(words, next + 1);
-    match Entry::from_number(words[next]) {
-        Entry::Words => Place {
-            size: put_words(input, size, words, next + 2, count),
-            next: next + 2 + count as usize,
-            ran,
-        },
-        Entry::MadeWords => Place {
-            size: make_words(input, size, false, count, word_of(words, next + 2)),
-            next: next + 3,
-            ran,
-        },
-        Entry::MadeNumbers => Place {
-            size: make_words(input, size, true, count, word_of(words, next + 2)),
-            next: next + 3,
-            ran,
-        },
+    let count = word_of(words, 1);
+    match Entry::from(word_of(words, 0)) {
+        Entry::Words => {
+            captures.put_words(words, count);
+            2 + count as usize
+        }
+        Entry::MadeWords => {
+            captures.make_words(count, word_of(words, 2), |x| x);
+            3
+        }
+        Entry::MadeNumbers => {
+            captures.make_words(count, word_of(words, 2), number_of);
+            3
+        }
         Entry::Run => {
-            let ran = ran.saturating_add(1);
-            run_first(rt, input, count as usize, ran);
-            Place {
-                size: 0,
-                next: next + 2,
-                ran,
-            }
+            captures.run(rt, count as usize);
+            2
         }
     }
 }
 
-// The whole list, each capture being put together in `input`; how many there were.
-fn replay(rt: &impl Print, words: &[u32], input: &mut [u8]) -> u64 {
-    let mut place = Place {
+// The whole list, each capture being put together in `bytes`; how many there were. Its entries are of many lengths, so that no iterator goes over them.
+fn replay(rt: &impl Print, words: &[u32], bytes: &mut [u8]) -> u64 {
+    let mut captures = Captures {
+        bytes,
         size: 0,
-        next: 0,
         ran: 0,
     };
-    while place.next < words.len() {
-        place = step(rt, words, input, place);
+    let mut at = 0;
+    while at < words.len() {
+        at += step(rt, &words[at..], &mut captures);
     }
-    place.ran
+    captures.ran
 }
 
 fn main(rt: HostRuntime) {
     let mut words = [0u32; 32768];
     let size = word_text::load_file(&rt, b"captures.txt", &mut words);
-    let mut input = [0u8; 66560];
-    let ran = replay(&rt, &words[..size], &mut input);
+    let mut bytes = [0u8; 66560];
+    let ran = replay(&rt, &words[..size], &mut bytes);
     let _ = println!(rt; "{ran} captures");
 }

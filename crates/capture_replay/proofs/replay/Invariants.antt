@@ -1,9 +1,9 @@
--- Each entry of the list takes the place on, so what is left of the list falls.
-use Rattle.std.proofs.Common.{◌≡◌, ◌-◌, length}
+-- Each entry of the list takes a word or more, so what is left of the list falls.
+use Rattle.std.proofs.Common.{◌-◌, ◌≤◌, length}
 use Rattle.capture_replay.proofs.replay.Given as goal
 
-abbrev pub invariant-loop-place : goal.invariant-loop-place
-invariant-loop-place g l = length l.input ≡ length l.fn.input
+abbrev pub invariant-loop-at : goal.invariant-loop-at
+invariant-loop-at g l = 0 ≤ l.at
 
-abbrev pub decreases-loop-place : goal.decreases-loop-place
-decreases-loop-place g l = length l.words - l.place.next
+abbrev pub decreases-loop-at : goal.decreases-loop-at
+decreases-loop-at g l = length l.words - l.at
