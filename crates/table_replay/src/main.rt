@@ -7,7 +7,36 @@ use std::fmt;
 // The words of one call in the list: its kind, two arguments and the answer.
 const CALL_WORDS: usize = 9;
 
-const WRITE: u32 = 1;
+// A call of the list.
+enum Call {
+    Write { register: u32, value: u32 },
+    // of `count` words that follow from a seed
+    Restore { seed: u32, count: u32 },
+}
+
+impl Call {
+    // The call that the words begin with; kind 1 is a write, any other a restore.
+    fn from_words(words: &[u32]) -> Call {
+        let a = word_of(words, 1);
+        let b = word_of(words, 2);
+        match word_of(words, 0) {
+            1 => Call::Write {
+                register: a,
+                value: b,
+            },
+            _ => Call::Restore { seed: a, count: b },
+        }
+    }
+
+    fn run(self, file: &mut [u32], entries: &mut [u32], generation: u64) -> Result<u64, Refusal> {
+        match self {
+            Call::Write { register, value } => {
+                tables::registers::write(file, entries, generation, register, value)
+            }
+            Call::Restore { seed, count } => restore(entries, generation, seed, count),
+        }
+    }
+}
 
 // What a call left: its number, 1C5, the generation's low word, the two words of the entry that 1C5 named before it, and the sum of all entries.
 #[derive(Clone, Copy, PartialEq)]
@@ -69,21 +98,6 @@ fn restore(entries: &mut [u32], generation: u64, seed: u32, count: u32) -> Resul
     tables::copies::restore(entries, generation, &saved[..count])
 }
 
-fn call(
-    file: &mut [u32],
-    entries: &mut [u32],
-    generation: u64,
-    kind: u32,
-    a: u32,
-    b: u32,
-) -> Result<u64, Refusal> {
-    if kind == WRITE {
-        tables::registers::write(file, entries, generation, a, b)
-    } else {
-        restore(entries, generation, a, b)
-    }
-}
-
 // The call that the words begin with.
 fn replay_call(
     rt: &impl Print,
@@ -94,14 +108,7 @@ fn replay_call(
 ) -> Count {
     // tables 24 to 31 have no entry
     let named = (word_of(file, 0x1C5) % 0x2000) as usize * 2;
-    let written = call(
-        file,
-        entries,
-        count.generation,
-        word_of(words, 0),
-        word_of(words, 1),
-        word_of(words, 2),
-    );
+    let written = Call::from_words(words).run(file, entries, count.generation);
     count.calls = count.calls.saturating_add(1);
     count.generation = written.unwrap_or(count.generation);
     let got = Answer {
