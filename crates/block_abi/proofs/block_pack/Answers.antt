@@ -39,7 +39,7 @@ module _ (f b : List ℕ) where
       go (suc q) h = ap (λ (x : FileRead). packing x.number b) h
 
 pub returns-in-Ok-None : goal.returns-in-Ok-None
-returns-in-Ok-None c = read_off _ _ _ c.in-Ok-None.ensures c.in-Ok-None.field-0-is
+returns-in-Ok-None c = rw c.switch_number.ensures (read_off _ _ _ c.in-Ok-None.ensures c.in-Ok-None.field-0-is)
 
 pub returns-in-Ok-Some : goal.returns-in-Ok-Some
 returns-in-Ok-Some c = rw c.outcome_number.ensures (c.pack.ensures ∙ read_on _ _ _ _ c.in-Ok-Some.ensures c.in-Ok-Some.field-0-is)
