@@ -1,7 +1,8 @@
 // Replays a list of register files, and compares the block of each with the Rust module's: how many there were and how many differ, and each difference.
 #![tactic(auto)]
+
 // How many files were replayed, and how many of those differ.
-#[derive(Clone, Copy)]
+#[derive(Clone, Copy, Default)]
 struct Count {
     files: u64,
     differ: u64,
@@ -12,19 +13,19 @@ fn word_of(words: &[u32], at: usize) -> u32 {
     words.get(at).copied().unwrap_or(0)
 }
 
-// The pairs of a place and a word that the words begin with, `count` of them, into `out`.
-fn put_pairs(out: &mut [u32], words: &[u32], count: u32) {
-    for pair in words.chunks_exact(2).take(count as usize) {
-        if let [at, word] = pair {
-            if let Some(place) = out.get_mut(*at as usize) {
-                *place = *word;
-            }
-        }
-    }
+// The `count` pairs of a place and a word from `at` on, or as many as are there.
+fn pairs_at(words: &[u32], at: usize, count: u32) -> &[[u32; 2]] {
+    let (pairs, _) = words[at.min(words.len())..].as_chunks::<2>();
+    &pairs[..pairs.len().min(count as usize)]
 }
 
-fn rest_of(words: &[u32], at: usize) -> &[u32] {
-    &words[at.min(words.len())..]
+// Each word into its place.
+fn put_pairs(out: &mut [u32], pairs: &[[u32; 2]]) {
+    for [at, word] in pairs {
+        if let Some(place) = out.get_mut(*at as usize) {
+            *place = *word;
+        }
+    }
 }
 
 fn print_difference(rt: &impl Print, file: u64, at: usize, got: u32, wanted: u32) {
@@ -43,22 +44,20 @@ fn differ(rt: &impl Print, file: u64, block: &[u32; 328], wanted: &[u32; 328]) -
     found
 }
 
-// One file: the number that is due, its registers, and the words of its block that aren't zero. An off file's block stays zero.
+// One file: the number that is due, as the list has it, its registers, and the words of its block that aren't zero. An off file's block stays zero.
 // Whether it differs.
 fn replay_file(
     rt: &impl Print,
     file: u64,
     number: u32,
-    registers: &[u32],
-    n: u32,
-    places: &[u32],
-    m: u32,
+    registers: &[[u32; 2]],
+    places: &[[u32; 2]],
 ) -> bool {
     let mut words = [0u32; 474];
     let mut block = [0u32; 328];
     let mut wanted = [0u32; 328];
-    put_pairs(&mut words, registers, n);
-    put_pairs(&mut wanted, places, m);
+    put_pairs(&mut words, registers);
+    put_pairs(&mut wanted, places);
     let got = block_abi::block_pack(&words, &mut block);
     let found = differ(rt, file, &block, &wanted);
     if got != number {
@@ -69,10 +68,7 @@ fn replay_file(
 
 // Every file of the list. Its files are of many lengths, so that no iterator goes over them. Counts stop at the largest, which no list reaches.
 fn replay(rt: &impl Print, words: &[u32]) -> Count {
-    let mut count = Count {
-        files: 0,
-        differ: 0,
-    };
+    let mut count = Count::default();
     let mut at = 0;
     while at < words.len() {
         let here = &words[at..];
@@ -84,10 +80,8 @@ fn replay(rt: &impl Print, words: &[u32]) -> Count {
             rt,
             count.files,
             word_of(here, 0),
-            rest_of(here, 2),
-            n,
-            rest_of(here, after + 1),
-            m,
+            pairs_at(here, 2, n),
+            pairs_at(here, after + 1, m),
         );
         count.differ = count.differ.saturating_add(differs as u64);
         at += after + 1 + 2 * m as usize;
