@@ -2,15 +2,16 @@
 ghost use Rattle.std.specs.Prelude.{◌≡◌, true, ◌*◌, ◌/◌, ◌≤◌, length};
 ghost use Rattle.lists.specs.Calls.{run};
 ghost use Rattle.lists.specs.Ours.{ours};
-ghost use Rattle.printing.specs.Steps.{out as out_at, puts};
+ghost use Rattle.printing.specs.Steps.{Adds, HasRoom};
 ghost use Rattle.capture_check.specs.Contents.{contents, shaped};
 ghost use Rattle.capture_body.specs.Steps.{lent_state};
 ghost use Rattle.capture_calls.specs.Steps.{calls_of, copy_prints};
 
-use capture_body::{Held, Ran, run_body};
+use capture_body::{Held, run_body};
 use capture_check::contents::{body_words, triples};
+use printing::Lines;
 
-// The bodies of a capture whose form is right, in order. What they print stands from the start of `out`.
+// The bodies of a capture whose form is right, in order; what is held afterwards.
 pub(crate) fn run_bodies(
     words: &[u32],
     file: &mut [u32],
@@ -18,20 +19,17 @@ pub(crate) fn run_bodies(
     block: &mut [u32],
     copied: &mut [u32],
     held: Held,
-    out: &mut [u8],
-) -> Ran
+    lines: &mut Lines<'_>,
+) -> Held
     requires formed { shaped words.now ≡ true }
-    requires words_in_bounds { 32 * (length words.now / 23) ≤ length out.old }
-    ensures state { lent_state file.new tables.new block.new copied.new result.held ≡ run ours (lent_state file.old tables.old block.old copied.old held) (calls_of words.now (contents words.now)) }
-    ensures text { out_at out.new result.next ≡ puts (out_at out.old 0) (copy_prints words.now (contents words.now) (lent_state file.old tables.old block.old copied.old held)) }
-    ensures room { result.next ≤ length out.new }
+    requires words_in_bounds { HasRoom lines.old (32 * (length words.now / 23)) }
+    ensures state { lent_state file.new tables.new block.new copied.new result ≡ run ours (lent_state file.old tables.old block.old copied.old held) (calls_of words.now (contents words.now)) }
+    ensures text { Adds lines.old lines.new (copy_prints words.now (contents words.now) (lent_state file.old tables.old block.old copied.old held)) }
 {
-    let mut ran = Ran { held, next: 0 };
+    let mut held = held;
     for [kind, offset, size] in triples(words) {
         let body = body_words(words, *offset, *size);
-        ran = run_body(
-            *kind, body, file, tables, block, copied, ran.held, out, ran.next,
-        );
+        held = run_body(*kind, body, file, tables, block, copied, held, lines);
     }
-    ran
+    held
 }

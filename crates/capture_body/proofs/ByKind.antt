@@ -5,7 +5,8 @@ use Rattle.unit.specs.declared.Cache.{Cache}
 use Rattle.lists.specs.States.{CopyState, State, unit_state, copy_state, state}
 use Rattle.lists.specs.Calls.{step, run}
 use Rattle.lists.specs.Ours.{ours}
-use Rattle.printing.specs.Steps.{Out, puts}
+use Rattle.printing.specs.declared.Lines.{Lines}
+use Rattle.printing.specs.Steps.{puts, Adds}
 use Rattle.capture_lines.specs.Lines.{fragment_lines, body_lines}
 use Rattle.capture_lines.specs.Steps.{block_shades}
 use Rattle.capture_body.specs.declared.Held.{Held}
@@ -38,6 +39,6 @@ module _ (s : State Cache) (kind : ℕ) (ws : List ℕ) where
   unfolding after_lines body_lines
   prints_lines k = rw k refl
 
-  pub prints_nothing : (o : Out) → eqb kind 2 ≡ false → o ≡ puts o (after_lines s kind ws)
+  pub prints_nothing : (l : Lines) → eqb kind 2 ≡ false → Adds l l (after_lines s kind ws)
   unfolding after_lines body_lines puts
-  prints_nothing o n = rw n refl
+  prints_nothing l n = record { same_reference = refl; after = rw n refl }

@@ -4,7 +4,7 @@
 mod writes;
 
 ghost use Rattle.std.specs.Prelude.{◌≡◌, ◌+◌, ◌*◌, ◌/◌, ◌≤◌, length};
-ghost use Rattle.printing.specs.Steps.{out as out_at, puts};
+ghost use Rattle.printing.specs.Steps.{Adds, HasRoom};
 ghost use Rattle.lists.specs.Calls.{step};
 ghost use Rattle.lists.specs.Ours.{ours};
 ghost use Rattle.capture_calls.specs.Capture.{hand_over_call};
@@ -14,6 +14,7 @@ ghost use Rattle.capture_body.specs.Steps.{lent_state};
 use crate::writes::{restore_body, write_pairs};
 use capture_check::contents::BodyKind;
 use capture_lines::print_fragments;
+use printing::Lines;
 use unit::Cache;
 
 // What a unit and its copy hold beside their slices: the unit's generation and cache, and the copy's generation.
@@ -22,13 +23,6 @@ pub struct Held {
     pub generation: u64,
     pub cache: Cache,
     pub age: u64,
-}
-
-// What bodies leave: what is held afterwards, and the place after what they printed.
-#[derive(Clone, Copy)]
-pub struct Ran {
-    pub held: Held,
-    pub next: usize,
 }
 
 // The hand-over before a kind 2 body's fragments; what is held afterwards. Refused, it stays.
@@ -67,30 +61,27 @@ pub fn run_body(
     block: &mut [u32],
     copied: &mut [u32],
     held: Held,
-    out: &mut [u8],
-    at: usize,
-) -> Ran
-    requires { at + 32 * (length body.now / 23) ≤ length out.old }
-    ensures state { lent_state file.new tables.new block.new copied.new result.held ≡ after_body (lent_state file.old tables.old block.old copied.old held) kind body.now }
-    ensures text { out_at out.new result.next ≡ puts (out_at out.old at) (after_lines (after_body (lent_state file.old tables.old block.old copied.old held) kind body.now) kind body.now) }
-    ensures room { result.next ≤ at + 32 * (length body.now / 23) }
+    lines: &mut Lines<'_>,
+) -> Held
+    requires { HasRoom lines.old (32 * (length body.now / 23)) }
+    ensures state { lent_state file.new tables.new block.new copied.new result ≡ after_body (lent_state file.old tables.old block.old copied.old held) kind body.now }
+    ensures text { Adds lines.old lines.new (after_lines (after_body (lent_state file.old tables.old block.old copied.old held) kind body.now) kind body.now) }
+    ensures room { lines.new.len ≤ lines.old.len + 32 * (length body.now / 23) }
 {
     match BodyKind::from_number(kind) {
         Some(BodyKind::Writes) => {
             let generation = write_pairs(file, tables, held.generation, body);
-            let held = Held { generation, ..held };
-            Ran { held, next: at }
+            Held { generation, ..held }
         }
         Some(BodyKind::Fragments) => {
             let held = hand_over(file, tables, block, copied, held);
-            let next = print_fragments(block, copied, body, out, at);
-            Ran { held, next }
+            print_fragments(block, copied, body, lines);
+            held
         }
         Some(BodyKind::Restore) => {
             let generation = restore_body(tables, held.generation, body);
-            let held = Held { generation, ..held };
-            Ran { held, next: at }
+            Held { generation, ..held }
         }
-        None => Ran { held, next: at },
+        None => held,
     }
 }

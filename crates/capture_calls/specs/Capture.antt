@@ -1,8 +1,10 @@
 -- What a capture does and prints. "Bodies run in order on a fresh unit and a fresh copy": first the calls that a body makes, then what the plain machine of demand 3 prints after
 -- them, then what is printed of an input's bytes, then what the library call answers. `Contents` of capture_check has bodies and refusals, `Lines` of capture_lines the lines.
 -- Definitions only.
-use Rattle.std.specs.Prelude.{ℕ, zero, suc, List, [], ◌∷◌, ◌++◌, cond, eqb, leb, length, drop}
+use Rattle.std.specs.Prelude.{ℕ, zero, suc, List, [], ◌∷◌, ◌++◌, cond, eqb, leb, length, drop, Option, None, Some, Result, Ok, Err}
+use Rattle.std.specs.Option.{unwrap_or}
 use Rattle.refusals.specs.Refusals.{number_of, ◌else◌}
+use Rattle.refusals.specs.declared.Refusal.{Refusal}
 use Rattle.sources.specs.Sources.{words_of}
 use Rattle.shading.specs.Shade.{Shaded}
 use Rattle.lists.specs.Calls.{Call}
@@ -14,7 +16,6 @@ use Rattle.printing.specs.Printing.{refused_line}
 use Rattle.capture_check.specs.Contents.{Body, words_in, contents, capture_refusal}
 use Rattle.capture_lines.specs.Lines.{no_answer, body_lines}
 use Rattle.capture_calls.specs.declared.Answer.{Answer}
-use Rattle.capture_calls.specs.declared.Answer.TheVariants.{Printed, Refused, Unprinted, ShortOutput}
 
 -- ---- the calls of a body
 
@@ -98,18 +99,17 @@ captures input n o =
     (captured (capture_refusal input else short_output) n o)
 
 -- "Where an answer is an enum, a definition gives, for each of its cases, this paper's number and values": its number
+abbrev pub number_of_answer : Result (Unit {0}) Refusal → Option ℕ → ℕ
+number_of_answer (Ok done) (Some n) = 0
+number_of_answer (Ok done) None = short_output
+number_of_answer (Err k) printed = number_of k
+
 abbrev pub number_by : Answer → ℕ
-number_by (Printed n) = 0
-number_by (Refused k n) = number_of k
-number_by (Unprinted k) = number_of k
-number_by ShortOutput = short_output
+number_by a = number_of_answer a.outcome a.printed
 
 -- how many bytes are printed, where it was n before
 abbrev pub size_of : ℕ → Answer → ℕ
-size_of n (Printed m) = m
-size_of n (Refused k m) = m
-size_of n (Unprinted k) = n
-size_of n ShortOutput = n
+size_of n a = unwrap_or a.printed n
 
 -- and both, where it left the output o
 abbrev pub captured_by : Answer → ℕ → List ℕ → Captured

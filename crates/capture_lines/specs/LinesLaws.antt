@@ -8,8 +8,9 @@ use Rattle.std.proofs.Math.Path.{refl}
 use Rattle.std.proofs.Math.Bool.{true, false}
 use Rattle.std.proofs.Math.ListN.{length, length-append, length-drop}
 use Rattle.std.proofs.Common.{drop-drop, length-take-le, get_or, ap, ◌∙◌}
-use Rattle.printing.specs.Steps.{Out, out, puts}
-use Rattle.printing.specs.WritingLaws.{puts_more}
+use Rattle.printing.specs.declared.Lines.{Lines}
+use Rattle.printing.specs.Steps.{Out, puts, so_far, Adds}
+use Rattle.printing.specs.AddedLaws.{added_due}
 use Rattle.printing.specs.TextLaws.{line_most, refused_most}
 use Rattle.printing.specs.Printing.{refused_line}
 use Rattle.refusals.specs.Refusals.{number_of}
@@ -43,12 +44,12 @@ module _ (f : List ℕ → Shaded) (ws : List ℕ) where
   unfolding fragment_lines
   lines_none i n h = let e : n - i ≡ 0 = omega arith in rw e
 
-  pub lines_turn : (l l' : List ℕ) (i n next end : ℕ) (q : List ℕ) (all : Out) → i < n → q ≡ take 23 (drop (23 * i) ws)
-      → out l' end ≡ puts (out l next) (shown_line (f q)) → puts (out l next) (fragment_lines f (n - i) (drop (23 * i) ws)) ≡ all
-      → puts (out l' end) (fragment_lines f (n - (i + 1)) (drop (23 * (i + 1)) ws)) ≡ all
-  lines_turn l l' i n next end q all h p e a =
-      puts_more (out l next) (out l' end) all (shown_line (f q)) (fragment_lines f (n - (i + 1)) (drop (23 * (i + 1)) ws)) e
-      (rw p (rw (lines_next i n h) at a))
+  pub lines_turn : (a b : Lines) (i n : ℕ) (q : List ℕ) (all : Out) → i < n → q ≡ take 23 (drop (23 * i) ws)
+      → Adds a b (shown_line (f q)) → puts (so_far a) (fragment_lines f (n - i) (drop (23 * i) ws)) ≡ all
+      → puts (so_far b) (fragment_lines f (n - (i + 1)) (drop (23 * (i + 1)) ws)) ≡ all
+  lines_turn a b i n q all h p e o =
+      added_due a b (shown_line (f q)) e (fragment_lines f (n - (i + 1)) (drop (23 * (i + 1)) ws)) all
+      (rw p (rw (lines_next i n h) at o))
 
 -- a line of eight numbers, `off` and `refused N` have at most 32 bytes
 line_fits : (s : Shaded) → length s.answer ≡ 8 → length (shown_line s) ≤ 32
@@ -85,7 +86,7 @@ fragment_at (suc n) ws (suc i) d h =
     let e : 23 + 23 * i ≡ 23 * suc i = omega arith in
     fragment_at n (drop 23 ws) i d (omega arith) ∙ ap (λ (r : List ℕ). take 23 r) (drop-drop (23 * i) 23 ws ∙ ap (λ (m : ℕ). drop m ws) e)
 
--- every refusal is shown by its number, which has no more than three digits
+-- every refusal is shown by its number
 pub refused_shown : (k : Refusal) → shown_line (shaded (number_of k) no_answer) ≡ refused_line (number_of k)
 unfolding shown_line
 refused_shown ShortFile = refl
@@ -97,14 +98,3 @@ refused_shown WrongBlock = refl
 refused_shown NotWellFormed = refl
 refused_shown BadCapture = refl
 refused_shown WrongFragment = refl
-
-pub refusal_small : (k : Refusal) → number_of k < 1000
-refusal_small ShortFile = omega arith
-refusal_small WrongTables = omega arith
-refusal_small HighRegister = omega arith
-refusal_small LastGeneration = omega arith
-refusal_small WrongSaved = omega arith
-refusal_small WrongBlock = omega arith
-refusal_small NotWellFormed = omega arith
-refusal_small BadCapture = omega arith
-refusal_small WrongFragment = omega arith

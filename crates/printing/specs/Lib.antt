@@ -3,3 +3,4 @@ pub mod Steps
 pub mod DecimalLaws
 pub mod WritingLaws
 pub mod TextLaws
+pub mod AddedLaws

@@ -21,26 +21,26 @@ pub puts_next : (l text : List ℕ) (at i x : ℕ) → i < length text → x ≡
 unfolding puts
 puts_next l text at i x h e = rw (drop_one text i h, e)
 
-puts-at : (o : Out) (xs : List ℕ) → (puts o xs).at ≡ o.at + length xs
+pub puts_at : (o : Out) (xs : List ℕ) → (puts o xs).at ≡ o.at + length xs
 unfolding puts
-puts-at o [] = sym (add-zero o.at)
-puts-at o (x ∷ xs) = puts-at (out (set o.list o.at x) (o.at + 1)) xs ∙ (omega arith)
+puts_at o [] = sym (add-zero o.at)
+puts_at o (x ∷ xs) = puts_at (out (set o.list o.at x) (o.at + 1)) xs ∙ (omega arith)
 
-puts-list : (o : Out) (xs : List ℕ) → (puts o xs).list ≡ sets o.list o.at xs
+pub puts_list : (o : Out) (xs : List ℕ) → (puts o xs).list ≡ sets o.list o.at xs
 unfolding puts
-puts-list o [] = refl
-puts-list o (x ∷ xs) =
-    puts-list (out (set o.list o.at x) (o.at + 1)) xs ∙ ap (λ (n : ℕ). sets (set o.list o.at x) n xs) (add-one o.at)
+puts_list o [] = refl
+puts_list o (x ∷ xs) =
+    puts_list (out (set o.list o.at x) (o.at + 1)) xs ∙ ap (λ (n : ℕ). sets (set o.list o.at x) n xs) (add-one o.at)
 
 -- a text that was put from the start: how long it is, and the buffer afterwards
 module _ (l l' text : List ℕ) (r : ℕ) (e : out l' r ≡ puts (out l 0) text) where
   pub put_size : r ≡ length text
-  put_size = ap (λ (o : Out). o.at) e ∙ puts-at (out l 0) text ∙ zero-add (length text)
+  put_size = ap (λ (o : Out). o.at) e ∙ puts_at (out l 0) text ∙ zero-add (length text)
 
   pub put_list : length text ≤ length l → l' ≡ text ++ drop (length text) l
   put_list h =
       ap (λ (o : Out). o.list) e
-      ∙ puts-list (out l 0) text
+      ∙ puts_list (out l 0) text
       ∙ sets-eq text l 0 (rw zero-add h)
       ∙ ap (λ (n : ℕ). text ++ drop n l) (zero-add (length text))
 
@@ -53,8 +53,8 @@ puts_copied l text at h =
     let rest = Post-is at (at + length text) l (omega arith) in
     ap (λ (r : List ℕ). out (take at l ++ (text ++ r)) (at + length text)) rest
     ∙ ap (λ (m : List ℕ). out m (at + length text)) (sym (append_assoc (take at l) text (drop (at + length text) l)))
-    ∙ ap (λ (m : List ℕ). out m (at + length text)) (sym (puts-list (out l at) text ∙ sets-eq text l at h))
-    ∙ ap (out (puts (out l at) text).list) (sym (puts-at (out l at) text))
+    ∙ ap (λ (m : List ℕ). out m (at + length text)) (sym (puts_list (out l at) text ∙ sets-eq text l at h))
+    ∙ ap (out (puts (out l at) text).list) (sym (puts_at (out l at) text))
 
 -- a few elements stored in a row
 pub puts_two : (l : List ℕ) (i a b : ℕ) → out (set (set l i a) (i + 1) b) (i + 2) ≡ puts (out l i) (a ∷ b ∷ [])

@@ -1,8 +1,9 @@
-// Numbers in decimal, written into a buffer from a place on. By hand, since no number has more than three digits: `itoa` writes one of any size into a buffer of its own, of 40 bytes,
-// from which it would be copied.
-ghost use Rattle.std.specs.Prelude.{◌≡◌, ◌+◌, ◌≤◌, ◌<◌, length};
-ghost use Rattle.printing.specs.Steps.{out as out_at, puts};
+// Numbers in decimal. By hand, since no number has more than three digits: `itoa` writes one of any size into a buffer of its own, of 40 bytes, from which it would be copied.
+ghost use Rattle.std.specs.Prelude.{◌≡◌, ◌<◌};
 ghost use Rattle.printing.specs.Printing.{digit_byte, decimal};
+ghost use Rattle.printing.specs.Steps.{Adds, HasRoom};
+
+use crate::Lines;
 
 // The byte of a digit.
 fn digit(n: u32) -> u8
@@ -12,22 +13,19 @@ fn digit(n: u32) -> u8
     b'0' + n as u8
 }
 
-// A number below 1000 in decimal.
-pub(crate) fn put_decimal(out: &mut [u8], at: usize, k: u32) -> usize
-    requires { (at + 3 ≤ length out.old) × (k < 1000) }
-    ensures { (out_at out.new result ≡ puts (out_at out.old at) (decimal k)) × (result ≤ at + 3) }
-{
-    if k < 10 {
-        out[at] = digit(k);
-        return at + 1;
+impl<'a> Lines<'a> {
+    // A number below 1000 in decimal.
+    #[tactic(auto, unfolding(crate::specs::Printing::decimal))]
+    pub(crate) fn put_decimal(&mut self, k: u32)
+        requires { HasRoom self.old 3 × (k < 1000) }
+        ensures { Adds self.old self.new (decimal k) }
+    {
+        if k < 10 {
+            self.put_text(&[digit(k)]);
+        } else if k < 100 {
+            self.put_text(&[digit(k / 10), digit(k % 10)]);
+        } else {
+            self.put_text(&[digit(k / 100), digit(k / 10 % 10), digit(k % 10)]);
+        }
     }
-    if k < 100 {
-        out[at] = digit(k / 10);
-        out[at + 1] = digit(k % 10);
-        return at + 2;
-    }
-    out[at] = digit(k / 100);
-    out[at + 1] = digit(k / 10 % 10);
-    out[at + 2] = digit(k % 10);
-    at + 3
 }

@@ -4,8 +4,9 @@ use Rattle.unit.specs.declared.Cache.{Cache}
 use Rattle.lists.specs.States.{State}
 use Rattle.lists.specs.Calls.{run}
 use Rattle.lists.specs.Ours.{ours}
-use Rattle.printing.specs.Steps.{Out, out, puts}
-use Rattle.printing.specs.WritingLaws.{puts_more}
+use Rattle.printing.specs.declared.Lines.{Lines}
+use Rattle.printing.specs.Steps.{Out, puts, so_far, Adds}
+use Rattle.printing.specs.AddedLaws.{added_due}
 use Rattle.capture_check.specs.Contents.{Body, words_in}
 use Rattle.capture_calls.specs.Capture.{body_calls}
 use Rattle.capture_calls.specs.Steps.{after_body, after_lines, calls_of, copy_prints}
@@ -17,7 +18,7 @@ module _ (w : List ℕ) (b : Body) (bs : List Body) (ws : List ℕ) (p : ws ≡ 
   unfolding calls_of after_body
   calls_turn all a = rw (e, p) (sym (run_append ours s (body_calls b.kind (words_in w b)) (calls_of w bs)) ∙ a)
 
-  pub prints_turn : (l l' : List ℕ) (next end : ℕ) (all : Out) → out l' end ≡ puts (out l next) (after_lines (after_body s b.kind ws) b.kind ws) → puts (out l next) (copy_prints w (b ∷ bs) s) ≡ all → puts (out l' end) (copy_prints w bs s') ≡ all
+  pub prints_turn : (l l' : Lines) (all : Out) → Adds l l' (after_lines (after_body s b.kind ws) b.kind ws) → puts (so_far l) (copy_prints w (b ∷ bs) s) ≡ all → puts (so_far l') (copy_prints w bs s') ≡ all
   unfolding copy_prints
-  prints_turn l l' next end all d a =
-      puts_more (out l next) (out l' end) all (after_lines (after_body s b.kind ws) b.kind ws) (copy_prints w bs s') d (rw (e, p) a)
+  prints_turn l l' all d a =
+      added_due l l' (after_lines (after_body s b.kind ws) b.kind ws) d (copy_prints w bs s') all (rw (e, p) a)

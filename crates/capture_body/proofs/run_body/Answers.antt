@@ -3,7 +3,6 @@
 use Rattle.std.proofs.Common.{arith, sym, ap, refl, ◌∙◌}
 use Rattle.unit.specs.declared.Cache.{Cache}
 use Rattle.lists.specs.States.{State}
-use Rattle.printing.specs.Steps.{out, puts}
 use Rattle.capture_check.specs.KindsLaws.{kind_is, kind_none}
 use Rattle.capture_calls.specs.Steps.{after_lines}
 use Rattle.capture_body.proofs.ByKind.{after_writes, after_hand_over, after_restore, after_other, prints_lines, prints_nothing}
@@ -15,7 +14,7 @@ returns-in-Some-Writes c =
     let k = kind_is a.kind _ (sym (rw c.in-Some-Writes.field-0-is at c.in-Some-Writes.ensures)) in
     record {
       state = after_writes a.file.now a.tables.now a.block.now a.copied.now a.held a.kind a.body.now k _ _ _ c.write_pairs-generation.ensures;
-      text = prints_nothing _ a.kind a.body.now (out a.out.now a.at) (rw k refl);
+      text = prints_nothing _ a.kind a.body.now a.lines.now (rw k refl);
       room = omega arith;
     }
 
@@ -23,12 +22,12 @@ pub returns-in-Some-Fragments : goal.returns-in-Some-Fragments
 returns-in-Some-Fragments c =
     let a = c.args in
     let k = kind_is a.kind _ (sym (rw c.in-Some-Fragments.field-0-is at c.in-Some-Fragments.ensures)) in
-    let p = c.print_fragments-next in
+    let p = c.print_fragments in
     let e = after_hand_over a.file.now a.tables.now a.block.now a.copied.now a.held a.kind a.body.now k _ _ _ c.hand_over-held.ensures in
     record {
       state = e;
-      text = p.ensures.0 ∙ ap (puts (out a.out.now a.at)) (prints_lines _ a.kind a.body.now k ∙ ap (λ (x : State Cache). after_lines x a.kind a.body.now) e);
-      room = p.ensures.1;
+      text = rw (← prints_lines _ a.kind a.body.now k ∙ ap (λ (x : State Cache). after_lines x a.kind a.body.now) e) p.ensures.text;
+      room = p.ensures.room;
     }
 
 pub returns-in-Some-Restore : goal.returns-in-Some-Restore
@@ -37,7 +36,7 @@ returns-in-Some-Restore c =
     let k = kind_is a.kind _ (sym (rw c.in-Some-Restore.field-0-is at c.in-Some-Restore.ensures)) in
     record {
       state = after_restore a.file.now a.tables.now a.block.now a.copied.now a.held a.kind a.body.now k _ _ c.restore_body-generation.ensures;
-      text = prints_nothing _ a.kind a.body.now (out a.out.now a.at) (rw k refl);
+      text = prints_nothing _ a.kind a.body.now a.lines.now (rw k refl);
       room = omega arith;
     }
 
@@ -47,6 +46,6 @@ returns-in-None c =
     let none = kind_none a.kind (sym (rw c.in-None.is at c.from_number.ensures)) in
     record {
       state = after_other a.file.now a.tables.now a.block.now a.copied.now a.held a.kind a.body.now none.0 none.1 none.2;
-      text = prints_nothing _ a.kind a.body.now (out a.out.now a.at) none.1;
+      text = prints_nothing _ a.kind a.body.now a.lines.now none.1;
       room = omega arith;
     }

@@ -1,7 +1,8 @@
 -- `bodies::run_bodies` meets its contract. What the bodies that are still to come do to the unit and the copy so far, and print from the place so far, stays what all of
 -- them do and print; and for the words that are left there is room.
-use Rattle.std.proofs.Common.{ℕ, ◌≡◌, ◌+◌, ◌≤◌, ◌<◌, true, List, [], ◌∷◌, length, get_or, drop, arith, refl, ap}
+use Rattle.std.proofs.Common.{ℕ, ◌≡◌, ◌+◌, ◌≤◌, ◌<◌, true, List, [], ◌∷◌, length, get_or, drop, arith, refl, ap, ◌∙◌}
 use Rattle.printing.specs.Steps.{puts}
+use Rattle.printing.specs.AddedLaws.{added_room}
 use Rattle.lists.specs.Calls.{run}
 use Rattle.capture_check.specs.Contents.{body_count, contents_end, gapless}
 use Rattle.capture_check.specs.Steps.{bodies}
@@ -34,47 +35,56 @@ pub loop-kind-init : goal.loop-kind-init
 loop-kind-init c =
     let w = c.args.words.now in
     let e = c.triples-kind-items.ensures in
-    (contents_end (body_count w), rw e (shaped-gapless w c.requires.formed), omega (arith, c.requires.words_in_bounds), rw e refl, rw e refl)
+    record {
+      at = contents_end (body_count w);
+      stand = rw e (shaped-gapless w c.requires.formed);
+      same_reference = refl;
+      room = omega (arith, c.requires.words_in_bounds);
+      calls = rw e refl;
+      due = rw e refl;
+    }
 
 pub body_words-body-requires : goal.body_words-body-requires
 body_words-body-requires c =
     let l = c.loop-kind in
     let ts = c.triples-kind-items.result.now in
-    let at = l.invariant.0 in
+    let at = l.invariant.at in
     let end = length c.args.words.now in
-    omega (arith, offset ts l.kind-index at end (omega arith) l.invariant.1, ends ts l.kind-index at end (omega arith) l.invariant.1)
+    omega (arith, offset ts l.kind-index at end (omega arith) l.invariant.stand, ends ts l.kind-index at end (omega arith) l.invariant.stand)
 
-pub run_body-ran-requires : goal.run_body-ran-requires
-run_body-ran-requires c =
+pub run_body-held-requires : goal.run_body-held-requires
+run_body-held-requires c =
     let l = c.loop-kind in
     let ts = c.triples-kind-items.result.now in
     let w = c.args.words.now in
     let b = here ts l.kind-index (omega arith) in
     let few = words_in_few w b in
-    let fits = ends ts l.kind-index l.invariant.0 (length w) (omega arith) l.invariant.1 in
-    rw (c.body_words-body.ensures b.kind) (omega (arith, few, fits, l.invariant.2))
+    let fits = ends ts l.kind-index l.invariant.at (length w) (omega arith) l.invariant.stand in
+    rw (c.body_words-body.ensures b.kind) (omega (arith, few, fits, l.invariant.room))
 
 pub loop-kind-preserved : goal.loop-kind-preserved
 loop-kind-preserved c =
     let l = c.loop-kind in
     let ts = c.triples-kind-items.result.now in
     let i = l.kind-index in
-    let at = l.invariant.0 in
+    let at = l.invariant.at in
     let w = c.args.words.now in
     let h : i < length ts = omega arith in
     let b = here ts i h in
-    let r = c.run_body-ran in
+    let r = c.run_body-held in
     let few = words_in_few w b in
-    let fits = ends ts i at (length w) h l.invariant.1 in
+    let fits = ends ts i at (length w) h l.invariant.stand in
     let words = c.body_words-body.ensures b.kind in
     let size = ap length words in
-    let s = lent_state l.file l.tables l.block l.copied l.ran.held in (
-      at + b.size,
-      rest ts i at (length w) h l.invariant.1,
-      omega (arith, few, fits, size, r.ensures.room, r.auto.out, l.invariant.2),
-      calls_turn w b (bodies (drop (i + 1) ts)) _ words s _ r.ensures.state _ (rw (bodies_more ts i h) at l.invariant.3),
-      prints_turn w b (bodies (drop (i + 1) ts)) _ words s _ r.ensures.state l.out _ l.ran.next _ _ r.ensures.text (rw (bodies_more ts i h) at l.invariant.4),
-    )
+    let s = lent_state l.file l.tables l.block l.copied l.held in
+    record {
+      at = at + b.size;
+      stand = rest ts i at (length w) h l.invariant.stand;
+      same_reference = r.ensures.text.same_reference ∙ l.invariant.same_reference;
+      room = omega (arith, few, fits, size, r.ensures.room, added_room _ _ _ r.ensures.text, l.invariant.room);
+      calls = calls_turn w b (bodies (drop (i + 1) ts)) _ words s _ r.ensures.state _ (rw (bodies_more ts i h) at l.invariant.calls);
+      due = prints_turn w b (bodies (drop (i + 1) ts)) _ words s _ r.ensures.state _ _ _ r.ensures.text (rw (bodies_more ts i h) at l.invariant.due);
+    }
 
 pub returns : goal.returns
 unfolding puts copy_prints calls_of run
@@ -82,7 +92,6 @@ returns c =
     let l = c.loop-kind in
     let ts = c.triples-kind-items.result.now in
     record {
-      state = rw (bodies_none ts l.kind-index (omega arith)) at l.invariant.3;
-      text = rw (bodies_none ts l.kind-index (omega arith)) at l.invariant.4;
-      room = omega (arith, l.invariant.2);
+      state = rw (bodies_none ts l.kind-index (omega arith)) at l.invariant.calls;
+      text = record { same_reference = l.invariant.same_reference; after = rw (bodies_none ts l.kind-index (omega arith)) at l.invariant.due };
     }
