@@ -29,8 +29,12 @@ module _ (f g : List ℕ) (s : SameKept f g) where
   unfolding read_steps lighting_on
   steps_same = rw (s.enable, s.disable, lighting_same)
 
+-- files that agree on those registers read alike
+pub read_same_kept : (f g : List ℕ) → SameKept f g → read f ≡ read g
+read_same_kept f g s = read_law f ∙ steps_same f g s ∙ sym (read_law g)
+
 pub read_same : (f g : List ℕ) → registers_read f ≡ registers_read g → read f ≡ read g
-read_same f g e = read_law f ∙ steps_same f g (kept_same f g e) ∙ sym (read_law g)
+read_same f g e = read_same_kept f g (kept_same f g e)
 
 pub read_either : (P : Option Lighting → Type 0) (f : List ℕ) → ((l : Lighting) → Limits l → P (on l)) → P off → P (read f)
 unfolding read_steps

@@ -9,3 +9,4 @@ pub mod SameLaws
 pub mod KeptLaws
 pub mod DecodeLaws
 pub mod ComparingLaws
+pub mod FileLaws

@@ -2,11 +2,12 @@
 ghost use Rattle.std.specs.Prelude.{◌≡◌};
 ghost use Rattle.decoding.specs.Read.{config as config_of, supported as supported_of};
 
+use crate::RegisterFile;
 use crate::registers::{REG_CONFIG0, bits, register};
 use lighting::tables::{DISTRIBUTION0, DISTRIBUTION1, FRESNEL, REFLECT_RED, SPOTLIGHT};
 
 #[tactic(auto, unfolding(crate::specs::Read::config))]
-pub(crate) fn configuration(file: &[u32]) -> u32
+pub(crate) fn configuration(file: &RegisterFile) -> u32
     ensures { result ≡ config_of file.now }
 {
     bits(register(file, REG_CONFIG0), 4, 4)

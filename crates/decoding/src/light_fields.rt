@@ -2,6 +2,7 @@
 ghost use Rattle.std.specs.Prelude.{◌≡◌, ◌<◌};
 ghost use Rattle.decoding.specs.Steps.{four_colours, light_register, position_of, spot_of};
 
+use crate::RegisterFile;
 use crate::registers::{REG_LIGHTS, register};
 use fields::short_floats::half;
 use fields::{color, fixed};
@@ -9,7 +10,7 @@ use lighting::LightNumber;
 
 // The word at an offset in a light's block.
 #[tactic(auto, unfolding(crate::specs::Steps::light_register))]
-pub(crate) fn light_register(file: &[u32], number: LightNumber, offset: usize) -> u32
+pub(crate) fn light_register(file: &RegisterFile, number: LightNumber, offset: usize) -> u32
     requires { (number.0 < 8) × (offset < 16) }
     ensures { result ≡ light_register file.now number offset }
 {
@@ -32,8 +33,9 @@ pub(crate) fn colors(first: u32, second: u32, third: u32, fourth: u32) -> [f32; 
     channels
 }
 
+// Position and spot direction are told in two formats: a function over the format would say in its contract what the format gives, and be no shorter.
 #[tactic(auto, unfolding(crate::specs::Steps::position_of))]
-pub(crate) fn position(file: &[u32], number: LightNumber) -> [f32; 3]
+pub(crate) fn position(file: &RegisterFile, number: LightNumber) -> [f32; 3]
     requires { number.0 < 8 }
     ensures { result ≡ position_of file.now number }
 {
@@ -43,7 +45,7 @@ pub(crate) fn position(file: &[u32], number: LightNumber) -> [f32; 3]
 }
 
 #[tactic(auto, unfolding(crate::specs::Steps::spot_of))]
-pub(crate) fn spot(file: &[u32], number: LightNumber) -> [f32; 3]
+pub(crate) fn spot(file: &RegisterFile, number: LightNumber) -> [f32; 3]
     requires { number.0 < 8 }
     ensures { result ≡ spot_of file.now number }
 {

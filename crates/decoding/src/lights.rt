@@ -2,6 +2,7 @@
 ghost use Rattle.std.specs.Prelude.{◌≡◌, ◌<◌};
 ghost use Rattle.decoding.specs.Steps.{distance_of, spotlit_of, light_of, slot_light, lights_of};
 
+use crate::RegisterFile;
 use crate::configuration::{configuration, supported};
 use crate::light_fields::{colors, light_register, position, spot};
 use crate::registers::{REG_CONFIG1, flag, register};
@@ -13,7 +14,7 @@ use vectors::normalized;
 
 // The bit that takes the distance away is that of the light's number, whatever its slot.
 #[tactic(auto, unfolding(crate::specs::Steps::distance_of))]
-fn distance(file: &[u32], number: LightNumber) -> Option<Distance>
+fn distance(file: &RegisterFile, number: LightNumber) -> Option<Distance>
     requires { number.0 < 8 }
     ensures { result ≡ distance_of file.now number }
 {
@@ -27,7 +28,7 @@ fn distance(file: &[u32], number: LightNumber) -> Option<Distance>
 }
 
 #[tactic(auto, unfolding(crate::specs::Steps::spotlit_of))]
-fn spotlit(file: &[u32], number: LightNumber) -> bool
+fn spotlit(file: &RegisterFile, number: LightNumber) -> bool
     requires { number.0 < 8 }
     ensures { result ≡ spotlit_of file.now number }
 {
@@ -35,7 +36,7 @@ fn spotlit(file: &[u32], number: LightNumber) -> bool
         & supported(configuration(file), SPOTLIGHT)
 }
 
-fn light(file: &[u32], number: LightNumber) -> Light
+fn light(file: &RegisterFile, number: LightNumber) -> Light
     requires { number.0 < 8 }
     ensures { result ≡ light_of file.now number }
 {
@@ -68,7 +69,7 @@ fn light(file: &[u32], number: LightNumber) -> Light
 
 // The light in a slot, blank beyond the count.
 #[tactic(auto, unfolding(crate::specs::Steps::slot_light), using(crate::specs::LightLaws::number_lt))]
-fn slot_light(file: &[u32], slot: Slot) -> Light
+fn slot_light(file: &RegisterFile, slot: Slot) -> Light
     requires { slot.0 < 8 }
     ensures { result ≡ slot_light file.now slot }
 {
@@ -80,7 +81,7 @@ fn slot_light(file: &[u32], slot: Slot) -> Light
 }
 
 #[tactic(auto, unfolding(crate::specs::Steps::lights_of))]
-pub(crate) fn lights(file: &[u32]) -> [Light; 8]
+pub(crate) fn lights(file: &RegisterFile) -> [Light; 8]
     ensures { result ≡ lights_of file.now }
 {
     // eight calls, since array::from_fn takes 25 to 45 ns more for each read that decodes

@@ -1,25 +1,35 @@
 // What the lights on and the lookups that are read need: the half vector, and the unit vector toward the viewer.
-ghost use Rattle.std.specs.Prelude.{◌≡◌};
+ghost use Rattle.std.specs.Prelude.{◌≡◌, ◌≤◌, take};
 ghost use Rattle.std.specs.List.{list_any};
 ghost use Rattle.decoding.specs.Steps.{has_spotlight, is_geometric, input_half, input_view, lookup_half, lookup_view, half_input, view_input};
 
 use lighting::{Light, Lookup, TableLookups};
 
-// Whether one of the lights has a spotlight.
-pub(crate) fn any_spotlight(lights: &[Light]) -> bool
-    ensures { result ≡ list_any has_spotlight lights.now }
-{
-    lights.iter().any(|light| light.spotlight)
+// What some light on has.
+#[derive(Clone, Copy)]
+pub(crate) struct SomeLight {
+    pub spotlit: bool,
+    pub geometric: bool,
 }
 
-// Whether one of the lights has a geometric factor.
-pub(crate) fn any_geometric(lights: &[Light]) -> bool
-    ensures { result ≡ list_any is_geometric lights.now }
+// Of the first `count` lights, those that are on. A loop over their places: to lend the array takes three copies of it.
+pub(crate) fn some_light(lights: [Light; 8], count: usize) -> SomeLight
+    requires { count ≤ 8 }
+    ensures { (result.spotlit ≡ list_any has_spotlight (take count lights)) × (result.geometric ≡ list_any is_geometric (take count lights)) }
 {
-    lights
-        .iter()
-        .any(|light| light.geometric0 | light.geometric1)
+    let mut some = SomeLight {
+        spotlit: false,
+        geometric: false,
+    };
+    for slot in 0..count {
+        let light = lights[slot];
+        some.spotlit |= light.spotlight;
+        some.geometric |= light.geometric0 | light.geometric1;
+    }
+    some
 }
+
+// Half and view apart, each as the Rust tells it: one function over the test would say in its contract what the test gives, and be longer than both.
 
 // The inputs that read the half vector.
 #[tactic(auto, unfolding(crate::specs::Steps::input_half))]

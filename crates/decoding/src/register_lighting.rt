@@ -2,18 +2,19 @@
 ghost use Rattle.std.specs.Prelude.{◌≡◌};
 ghost use Rattle.decoding.specs.Steps.{lighting_of};
 
+use crate::RegisterFile;
 use crate::bump_shadow::{bump, shadow};
 use crate::configuration::configuration;
 use crate::light_fields::colors;
 use crate::lights::lights;
-use crate::needs::{any_geometric, any_spotlight, half_input, view_input};
+use crate::needs::{half_input, some_light, view_input};
 use crate::registers::{REG_CONFIG0, REG_GLOBAL_AMBIENT, flag, register};
 use crate::slots::light_count;
 use crate::table_lookups::lookups;
 use lighting::Lighting;
 
 // The lighting that the registers set up, whether or not it is on.
-pub(crate) fn lighting(file: &[u32]) -> Lighting
+pub(crate) fn lighting(file: &RegisterFile) -> Lighting
     ensures { result ≡ lighting_of file.now }
 {
     let config0 = register(file, REG_CONFIG0);
@@ -21,10 +22,9 @@ pub(crate) fn lighting(file: &[u32]) -> Lighting
     let count = light_count(file);
     let lights = lights(file);
     let tables = lookups(file);
-    let on = &lights[..count];
-    let spotlit = any_spotlight(on);
-    let half = any_geometric(on) | half_input(config, spotlit, tables);
-    let view = half | view_input(spotlit, tables);
+    let some = some_light(lights, count);
+    let half = some.geometric | half_input(config, some.spotlit, tables);
+    let view = half | view_input(some.spotlit, tables);
     let ambient = colors(register(file, REG_GLOBAL_AMBIENT), 0, 0, 0);
     Lighting {
         lights,

@@ -1,6 +1,8 @@
 // The registers that `read` takes, by name; the words of a register file, and the bits of a word.
-ghost use Rattle.std.specs.Prelude.{◌≡◌};
+ghost use Rattle.std.specs.Prelude.{◌≡◌, ◌<◌};
 ghost use Rattle.decoding.specs.Registers.{register_of, bits_of, flag_of};
+
+use crate::RegisterFile;
 
 pub(crate) const REG_ENABLE: usize = 0x08F;
 
@@ -28,11 +30,12 @@ pub(crate) const REG_TABLE_SCALE: usize = 0x1D2;
 // Four bits for each slot: the number of the light that it holds.
 pub(crate) const REG_LIGHT_SLOTS: usize = 0x1D9;
 
-// The word of a register; 0 where the file is too short to have it.
-pub(crate) fn register(file: &[u32], at: usize) -> u32
+// The word of a register.
+pub(crate) fn register(file: &RegisterFile, at: usize) -> u32
+    requires { at < 474 }
     ensures { result ≡ register_of file.now at }
 {
-    if at < file.len() { file[at] } else { 0 }
+    file[at]
 }
 
 // `width` bits of a word, from bit `from` on.

@@ -4,6 +4,7 @@ ghost use Rattle.decoding.specs.Read.{registers_read};
 ghost use Rattle.decoding.specs.Steps.{differences};
 ghost use Rattle.sources.specs.Sources.{same_words};
 
+use crate::RegisterFile;
 use crate::registers::{REG_DISABLE, REG_ENABLE, REG_LIGHT_SLOTS, REG_LIGHTS, REG_TABLE_ABSOLUTE};
 
 // How many of `count` words differ, from `from` on in the file and from `at` on in the kept words. It looks at all of them: that is
@@ -20,9 +21,7 @@ fn differing(file: &[u32], from: usize, kept: &[u32], at: usize, count: usize) -
 }
 
 // Whether the words that `read` takes are the kept ones.
-// Asks: a file that its caller has not refused, and all the kept words, so that no word is tested for being there.
-pub fn current(file: &[u32], kept: &[u32]) -> bool
-    requires { (474 ≤ length file.now) × (length kept.now ≡ 139) }
+pub fn are_kept(file: &RegisterFile, kept: &[u32; 139]) -> bool
     ensures { result ≡ same_words kept.now (registers_read file.now) }
 {
     let enable = differing(file, REG_ENABLE, kept, 0, 1);
@@ -34,9 +33,9 @@ pub fn current(file: &[u32], kept: &[u32]) -> bool
 }
 
 // The words that `read` takes, of all the lights whichever it decodes, into the kept ones.
-// Asks: as `current`.
-pub fn keep(file: &[u32], kept: &mut [u32])
-    requires { (474 ≤ length file.now) × (length kept.old ≡ 139) }
+// Asks: the places of all of them, which are a part of a cache's words.
+pub fn keep_registers(file: &RegisterFile, kept: &mut [u32])
+    requires { length kept.old ≡ 139 }
     ensures { kept.new ≡ registers_read file.now }
 {
     kept[0] = file[REG_ENABLE];
@@ -47,12 +46,10 @@ pub fn keep(file: &[u32], kept: &mut [u32])
 }
 
 // The same as a value.
-// Asks: as `current`.
-pub fn registers_read(file: &[u32]) -> [u32; 139]
-    requires { 474 ≤ length file.now }
+pub fn kept_registers(file: &RegisterFile) -> [u32; 139]
     ensures { result ≡ registers_read file.now }
 {
     let mut kept = [0; 139];
-    keep(file, &mut kept);
+    keep_registers(file, &mut kept);
     kept
 }

@@ -3,6 +3,7 @@ ghost use Rattle.std.specs.Prelude.{◌≡◌, ◌<◌};
 ghost use Rattle.decoding.specs.Read.{scale_of, lookup as lookup_of, table as table_of};
 ghost use Rattle.decoding.specs.Steps.{lookups_of};
 
+use crate::RegisterFile;
 use crate::configuration::{configuration, supported};
 use crate::registers::{
     REG_CONFIG1, REG_TABLE_ABSOLUTE, REG_TABLE_INPUT, REG_TABLE_SCALE, bits, flag, register,
@@ -24,7 +25,7 @@ fn scale(code: u32) -> f32
 
 // Each table's input, absolute bit and scale sit four bits apart; the absolute bit is a disable bit one above.
 #[tactic(auto, unfolding(crate::specs::Read::lookup))]
-fn lookup(file: &[u32], field: u32) -> Lookup
+fn lookup(file: &RegisterFile, field: u32) -> Lookup
     requires { field < 7 }
     ensures { result ≡ lookup_of file.now field }
 {
@@ -37,7 +38,7 @@ fn lookup(file: &[u32], field: u32) -> Lookup
 
 // The lookup of a table that its bit of 1C4 doesn't disable and the configuration has room for.
 #[tactic(auto, unfolding(crate::specs::Read::table))]
-fn table(file: &[u32], table: u32, disabled: u32, field: u32) -> Option<Lookup>
+fn table(file: &RegisterFile, table: u32, disabled: u32, field: u32) -> Option<Lookup>
     requires { field < 7 }
     ensures { result ≡ table_of file.now table disabled field }
 {
@@ -50,7 +51,7 @@ fn table(file: &[u32], table: u32, disabled: u32, field: u32) -> Option<Lookup>
 
 // The tables of a draw.
 #[tactic(auto, unfolding(crate::specs::Steps::lookups_of))]
-pub(crate) fn lookups(file: &[u32]) -> TableLookups
+pub(crate) fn lookups(file: &RegisterFile) -> TableLookups
     ensures { result ≡ lookups_of file.now }
 {
     TableLookups {

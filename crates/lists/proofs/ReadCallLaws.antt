@@ -10,6 +10,7 @@ use Rattle.refusals.specs.Refusals.{file_refusal}
 use Rattle.tables.specs.RefusalLaws.{passed_test}
 use Rattle.decoding.specs.Read.{read, registers_read}
 use Rattle.decoding.specs.DecodeLaws.{read_same}
+use Rattle.decoding.specs.FileLaws.{kept_first}
 use Rattle.unit.specs.declared.Cache.{Cache}
 use Rattle.decoding.specs.ComparingLaws.{same_equal}
 use Rattle.unit.specs.HandOverLaws.{long_file}
@@ -23,18 +24,6 @@ use Rattle.lists.specs.Plain.{accepts, Machine, does, plain_step}
 use Rattle.lists.proofs.LentLaws.{size-lent, is_own}
 use Rattle.lists.specs.Invariant.{Sound, Inv}
 use Rattle.lists.specs.InvariantLaws.{stays, moves}
-
--- the kept words are among the first 474
-part_take : (a b c : ℕ) (f : List ℕ) → b + a ≤ c → take a (drop b (take c f)) ≡ take a (drop b f)
-part_take a zero c f h = take-take a c f (omega arith)
-part_take a (suc b) zero f h = absurd (omega arith)
-part_take a (suc b) (suc c) [] h = refl
-part_take a (suc b) (suc c) (x ∷ xs) h = part_take a b c xs (omega arith)
-
-kept_first : (f : List ℕ) → registers_read (take 474 f) ≡ registers_read f
-unfolding registers_read
-kept_first f =
-    rw (get_or-take 474 f 0x08F 0 (lit< tt), part_take 133 0x140 474 f (lit≤ tt), get_or-take 474 f 0x1C6 0 (lit< tt), part_take 3 0x1D0 474 f (lit≤ tt), get_or-take 474 f 0x1D9 0 (lit< tt))
 
 kept_words : (o : Option (List ℕ)) (ws : List ℕ) → keeps o ws ≡ true → o ≡ Some ws
 unfolding keeps

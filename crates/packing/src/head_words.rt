@@ -9,8 +9,7 @@ use crate::rows::{put_lookup, put_row, put_vector};
 use lighting::Lighting;
 
 // The seven lookups.
-fn put_lookups(block: &mut [u32], l: Lighting)
-    requires { length block.old ≡ 328 }
+fn put_lookups(block: &mut [u32; 328], l: Lighting)
     ensures { block.new ≡ put_words block.old 8 (lookups_words l) }
 {
     put_lookup(block, 8, l.distribution0);
@@ -23,8 +22,8 @@ fn put_lookups(block: &mut [u32], l: Lighting)
 }
 
 // The block's first 40 words.
-pub(crate) fn put_head(block: &mut [u32], l: Lighting)
-    requires { (length block.old ≡ 328) × (in_range l ≡ true) }
+pub(crate) fn put_head(block: &mut [u32; 328], l: Lighting)
+    requires { in_range l ≡ true }
     ensures { block.new ≡ put_words block.old 0 (head_words l) }
 {
     put_row(

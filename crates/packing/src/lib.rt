@@ -22,8 +22,8 @@ use refusals::Refusal;
 
 // Each slot's part by itself: its light's words, or zeros where it isn't lit.
 #[tactic(auto, unfolding(block::specs::Block::slot_words, lighting::specs::Lighting::light_at), using(block::proofs::PackedLaws::range_number))]
-fn put_slot(block: &mut [u32], l: &Lighting, slot: Slot)
-    requires { (length block.old ≡ 328) × (in_range l.now ≡ true) × (slot.0 < 8) }
+fn put_slot(block: &mut [u32; 328], l: &Lighting, slot: Slot)
+    requires { (in_range l.now ≡ true) × (slot.0 < 8) }
     ensures { block.new ≡ put_words block.old (slot_at slot) (slot_words l.now slot) }
 {
     let at = slot_at(slot);
@@ -35,9 +35,9 @@ fn put_slot(block: &mut [u32], l: &Lighting, slot: Slot)
 }
 
 // All 328 words.
-// Asks: a block's length and a lighting in range, as every decoded one is, so that none of its parts is looked at again.
-pub fn fill(block: &mut [u32], l: Lighting)
-    requires { (length block.old ≡ 328) × (in_range l ≡ true) }
+// Asks: a lighting in range, as every decoded one is, so that none of its parts is looked at again.
+pub fn fill(block: &mut [u32; 328], l: Lighting)
+    requires { in_range l ≡ true }
     ensures { block.new ≡ packed l }
 {
     put_head(block, l);
@@ -51,9 +51,9 @@ pub fn fill(block: &mut [u32], l: Lighting)
 pub fn pack(lighting: Lighting, block: &mut [u32]) -> Result<(), Refusal>
     ensures { packing (outcome_number result) block.new ≡ packs lighting block.old }
 {
-    if block.len() != 328 {
+    let Some(block) = block.as_mut_array() else {
         return Err(Refusal::WrongBlock);
-    }
+    };
     if !block::accepted::acceptable(lighting) {
         return Err(Refusal::NotWellFormed);
     }

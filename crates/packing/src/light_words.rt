@@ -7,8 +7,8 @@ use crate::flag_words::flags_word;
 use crate::rows::{put_row, put_vector};
 use lighting::{Distance, Light};
 
-fn put_colours(block: &mut [u32], at: usize, l: Light)
-    requires { at + 16 ≤ length block.old }
+fn put_colours(block: &mut [u32; 328], at: usize, l: Light)
+    requires { at + 16 ≤ 328 }
     ensures { block.new ≡ put_words block.old at (colours_words l) }
 {
     put_vector(block, at, l.specular0);
@@ -17,8 +17,8 @@ fn put_colours(block: &mut [u32], at: usize, l: Light)
     put_vector(block, at + 12, l.ambient);
 }
 
-fn put_places(block: &mut [u32], at: usize, l: Light)
-    requires { at + 12 ≤ length block.old }
+fn put_places(block: &mut [u32; 328], at: usize, l: Light)
+    requires { at + 12 ≤ 328 }
     ensures { block.new ≡ put_words block.old at (places_words l) }
 {
     put_vector(block, at, l.position);
@@ -28,8 +28,8 @@ fn put_places(block: &mut [u32], at: usize, l: Light)
 
 // Bias, scale and padding.
 #[tactic(auto, unfolding(block::specs::Block::distance_words, block::specs::Block::distance_row))]
-fn put_distance(block: &mut [u32], at: usize, distance: Option<Distance>)
-    requires { at + 4 ≤ length block.old }
+fn put_distance(block: &mut [u32; 328], at: usize, distance: Option<Distance>)
+    requires { at + 4 ≤ 328 }
     ensures { block.new ≡ put_words block.old at (distance_words distance) }
 {
     match distance {
@@ -48,8 +48,8 @@ fn put_distance(block: &mut [u32], at: usize, distance: Option<Distance>)
 }
 
 // A light's 36 words.
-pub(crate) fn put_light(block: &mut [u32], at: usize, l: Light)
-    requires { (at + 36 ≤ length block.old) × (l.number.0 ≤ 7) }
+pub(crate) fn put_light(block: &mut [u32; 328], at: usize, l: Light)
+    requires { (at + 36 ≤ 328) × (l.number.0 ≤ 7) }
     ensures { block.new ≡ put_words block.old at (light_words l) }
 {
     put_colours(block, at, l);

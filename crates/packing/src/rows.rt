@@ -7,8 +7,8 @@ use lighting::Lookup;
 
 // Four words from `at` on: the block is rows of four.
 #[tactic(auto, using(crate::specs::PutLaws::part))]
-pub(crate) fn put_row(block: &mut [u32], at: usize, row: [u32; 4])
-    requires { at + 4 ≤ length block.old }
+pub(crate) fn put_row(block: &mut [u32; 328], at: usize, row: [u32; 4])
+    requires { at + 4 ≤ 328 }
     ensures { block.new ≡ put_words block.old at row }
 {
     block[at..at + 4].copy_from_slice(&row);
@@ -16,8 +16,8 @@ pub(crate) fn put_row(block: &mut [u32], at: usize, row: [u32; 4])
 
 // Presence, input, absolute, scale.
 #[tactic(auto, unfolding(block::specs::Block::lookup_words, block::specs::Block::lookup_row))]
-pub(crate) fn put_lookup(block: &mut [u32], at: usize, lookup: Option<Lookup>)
-    requires { at + 4 ≤ length block.old }
+pub(crate) fn put_lookup(block: &mut [u32; 328], at: usize, lookup: Option<Lookup>)
+    requires { at + 4 ≤ 328 }
     ensures { block.new ≡ put_words block.old at (lookup_words lookup) }
 {
     match lookup {
@@ -32,8 +32,8 @@ pub(crate) fn put_lookup(block: &mut [u32], at: usize, lookup: Option<Lookup>)
 
 // Three floats and padding.
 #[tactic(auto, unfolding(block::specs::Block::vector_words))]
-pub(crate) fn put_vector(block: &mut [u32], at: usize, v: [f32; 3])
-    requires { at + 4 ≤ length block.old }
+pub(crate) fn put_vector(block: &mut [u32; 328], at: usize, v: [f32; 3])
+    requires { at + 4 ≤ 328 }
     ensures { block.new ≡ put_words block.old at (vector_words v) }
 {
     put_row(
@@ -50,8 +50,8 @@ pub(crate) fn put_vector(block: &mut [u32], at: usize, v: [f32; 3])
 
 // 36 zeros.
 #[tactic(auto, using(crate::specs::PutLaws::part))]
-pub(crate) fn put_zeros(block: &mut [u32], at: usize)
-    requires { at + 36 ≤ length block.old }
+pub(crate) fn put_zeros(block: &mut [u32; 328], at: usize)
+    requires { at + 36 ≤ 328 }
     ensures { block.new ≡ put_words block.old at (replicate 36 0) }
 {
     block[at..at + 36].fill(0);

@@ -2,6 +2,7 @@
 -- Where shading does not take the block that a read leaves, nothing was read anew, so the cache is as it was. Assumes nothing.
 use Rattle.std.specs.Prelude.{ℕ, zero, suc, ◌≤◌, List, [], ◌∷◌, ◌++◌, Bool, ◌||◌, length, get_or, set, take, drop, replicate, Some, is_some}
 use Rattle.std.proofs.Common.{arith, ap, ◌∙◌, append-nil, length-append, length-drop, drop_of_length-le, take_at, drop_at, take_all}
+use borrow.Rule.Slice.PartMut.{put_mid}
 use Rattle.std.proofs.Math.Path.{◌≡◌, refl, sym}
 use Rattle.std.proofs.Math.Bool.{true, false, cond}
 use borrow.Author.Tests.{le-leb, eq-eqb, ne_eqb, leb-true}
@@ -95,14 +96,10 @@ anew_parts (x ∷ r) k b n m l =
 
 -- in a cache of the right length, the kept words and the block being the file's
 pub anew_words_lem : (f c k b : List ℕ) → 474 ≤ length f → length c ≡ 468 → k ≡ registers_read f → b ≡ packed_reading (read f)
-    → take 140 (take 1 (set c 0 1) ++ (k ++ drop 139 (drop 1 (set c 0 1)))) ++ (b ++ drop 328 (drop 140 (take 1 (set c 0 1) ++ (k ++ drop 139 (drop 1 (set c 0 1)))))) ≡ anew_words f
+    → put_mid 140 328 (put_mid 1 139 (set c 0 1) k) b ≡ anew_words f
 unfolding anew_words
 anew_words_lem f c k b long n ek eb =
     anew_parts c k b n (ap length ek ∙ kept_whole f long) (ap length eb ∙ packed_length (read f)) ∙ rw (ek, eb) refl
-
-pub kept_long : (c k : List ℕ) → length c ≡ 468 → length k ≡ 139 → length (take 1 (set c 0 1) ++ (k ++ drop 139 (drop 1 (set c 0 1)))) ≡ 468
-kept_long [] k n m = let z : ◌≡◌ {A = ℕ} 0 468 = n in absurd (omega arith)
-kept_long (x ∷ r) k n m = omega (arith, length-append k (drop 139 r), length-drop 139 r, n)
 
 -- the kept block is all that stands after the kept words
 pub block_part : (c : List ℕ) → length c ≡ 468 → take 328 (drop 140 c) ≡ cache_block c

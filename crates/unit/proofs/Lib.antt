@@ -1,2 +1,3 @@
 pub mod MeaningLaws
 pub mod LentLaws
+pub mod FirstLaws

@@ -20,7 +20,7 @@ pub fn hand_over(
 ) -> Result<HandedOver, Refusal>
     ensures { handed_of result cache block.new copied.new age ≡ hand_over file.now tables.now generation cache block.old copied.old age }
 {
-    hand_over_lengths(file.len(), tables.len(), copied.len(), block.len())?;
+    let file = hand_over_lengths(file, tables.len(), copied.len(), block.len())?;
     if !is_current(file, &cache) {
         cache = read_anew(file);
     }

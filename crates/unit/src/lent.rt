@@ -11,7 +11,8 @@ ghost use Rattle.unit.specs.CacheWords.{cache_block, formed, current_words, anew
 
 use crate::lengths::{hand_over_lengths, read_lengths};
 use block::BlockForm;
-use decoding::registers_read::{current, keep};
+use decoding::registers_read::{are_kept, keep_registers};
+use decoding::{RegisterFile, lit_registers, registers_on};
 use packing::fill;
 use refusals::{Refusal, Switch, switch_number};
 
@@ -48,20 +49,22 @@ impl From<LentRefusal> for u32 {
 }
 
 // Whether shading takes the block: it is off, or well formed.
-fn is_formed(block: &[u32]) -> bool
-    requires { length block.now ≡ 328 }
+fn is_formed(block: &[u32; 328]) -> bool
     ensures { result ≡ formed block.now }
 {
     !matches!(block_check::form(block), BlockForm::NotWellFormed)
 }
 
-// The block of a file's lighting, all zero where it is off, and whether it is on.
-fn put_reading(file: &[u32], block: &mut [u32]) -> Switch
+// The block of a file's lighting, all zero where it is off, and whether it is on. The block is a slice since a cache's is a part of its words, of which it is not known
+// what it is once it was lent as an array.
+fn put_reading(file: &RegisterFile, block: &mut [u32]) -> Switch
     requires { length block.old ≡ 328 }
     ensures { (block.new ≡ packed_reading (read file.now)) × (switch_number (Ok result) ≡ read_number (read file.now)) }
 {
-    if decoding::is_on(file) {
-        fill(block, decoding::read_lit(file));
+    if registers_on(file) {
+        if let Some(block) = block.as_mut_array() {
+            fill(block, lit_registers(file));
+        }
         return Switch::On;
     }
     block.fill(0);
@@ -70,32 +73,32 @@ fn put_reading(file: &[u32], block: &mut [u32]) -> Switch
 
 // Whether the cache is not empty, and its words are the file's.
 #[tactic(auto, unfolding(crate::specs::CacheWords::current_words))]
-fn is_current(file: &[u32], cache: &[u32]) -> bool
-    requires { (474 ≤ length file.now) × (length cache.now ≡ 468) }
+fn is_current(file: &RegisterFile, cache: &[u32]) -> bool
+    requires { length cache.now ≡ 468 }
     ensures { result ≡ current_words file.now cache.now }
 {
-    (cache[0] != 0) & current(file, &cache[1..CACHE_BLOCK])
+    (cache[0] != 0) & are_kept(file, cache[1..CACHE_BLOCK].as_array().unwrap())
 }
 
-fn read_anew(file: &[u32], cache: &mut [u32])
-    requires { (474 ≤ length file.now) × (length cache.old ≡ 468) }
+fn read_anew(file: &RegisterFile, cache: &mut [u32])
+    requires { length cache.old ≡ 468 }
     ensures { cache.new ≡ anew_words file.now }
 {
     cache[0] = 1;
-    keep(file, &mut cache[1..CACHE_BLOCK]);
+    keep_registers(file, &mut cache[1..CACHE_BLOCK]);
     put_reading(file, &mut cache[CACHE_BLOCK..CACHE_WORDS]);
 }
 
 // The cached read, refused with 7 where shading does not take the block that it leaves: then the cache is as it was.
-fn refresh(file: &[u32], cache: &mut [u32]) -> Result<(), Refusal>
-    requires { (474 ≤ length file.now) × (length cache.old ≡ 468) }
+fn refresh(file: &RegisterFile, cache: &mut [u32]) -> Result<(), Refusal>
+    requires { length cache.old ≡ 468 }
     ensures { (cache.new ≡ refreshed_words file.now cache.old) × (outcome_number result ≡ (if formed (cache_block (refreshed_words file.now cache.old)) then 0 else 7)) }
 {
     if !is_current(file, cache) {
         read_anew(file, cache);
         return Ok(());
     }
-    if !is_formed(&cache[CACHE_BLOCK..CACHE_WORDS]) {
+    if !is_formed(cache[CACHE_BLOCK..CACHE_WORDS].as_array().unwrap()) {
         return Err(Refusal::NotWellFormed);
     }
     Ok(())
@@ -117,7 +120,7 @@ fn take_block(cache: &[u32], block: &mut [u32]) -> Switch
 fn try_read(file: &[u32], block: &mut [u32]) -> Result<Switch, Refusal>
     ensures { packing_as (switch_number result) block.new ≡ read_packed file.now block.old }
 {
-    read_lengths(file.len(), block.len())?;
+    let file = read_lengths(file, block.len())?;
     Ok(put_reading(file, block))
 }
 
@@ -128,7 +131,7 @@ fn try_cached_read(
 ) -> Result<Switch, LentRefusal>
     ensures { cached_block (lent_switch_number result) cache.new block.new ≡ cached_read_packed_words file.now cache.old block.old }
 {
-    read_lengths(file.len(), block.len())?;
+    let file = read_lengths(file, block.len())?;
     if cache.len() != CACHE_WORDS {
         return Err(LentRefusal::WrongCache);
     }
@@ -147,7 +150,7 @@ fn try_hand_over(
 ) -> Result<(), LentRefusal>
     ensures { handed (lent_outcome_number result) cache.new block.new copied.new age.new ≡ hand_over_words file.now tables.now generation cache.old block.old copied.old age.old }
 {
-    hand_over_lengths(file.len(), tables.len(), copied.len(), block.len())?;
+    let file = hand_over_lengths(file, tables.len(), copied.len(), block.len())?;
     if cache.len() != CACHE_WORDS {
         return Err(LentRefusal::WrongCache);
     }

@@ -8,11 +8,11 @@ pub mod lent;
 pub mod reading;
 mod taking;
 
-ghost use Rattle.std.specs.Prelude.{◌≡◌, ◌≤◌, length};
+ghost use Rattle.std.specs.Prelude.{◌≡◌};
 ghost use Rattle.unit.specs.Unit.{fresh_cache, read_anew, current as current_of};
 
-use decoding::decode;
-use decoding::registers_read::{current, registers_read};
+use decoding::registers_read::{are_kept, kept_registers};
+use decoding::{RegisterFile, decode_registers};
 use lighting::Lighting;
 
 // The registers that the last read took, which draws mostly keep, and what it decoded of them: to compare those costs less than to decode
@@ -43,24 +43,22 @@ pub fn fresh_cache() -> Cache
 
 // The registers that decoding takes, and their lighting.
 #[tactic(auto, unfolding(crate::specs::Unit::read_anew))]
-pub(crate) fn read_anew(file: &[u32]) -> Cache
-    requires { 474 ≤ length file.now }
+pub(crate) fn read_anew(file: &RegisterFile) -> Cache
     ensures { result ≡ read_anew file.now }
 {
     Cache {
-        kept: Some(registers_read(file)),
-        decoded: decode(file),
+        kept: Some(kept_registers(file)),
+        decoded: decode_registers(file),
     }
 }
 
 // Whether the cache is not empty, and its words are the file's.
 #[tactic(auto, unfolding(crate::specs::Unit::current, crate::specs::Unit::keeps))]
-pub(crate) fn is_current(file: &[u32], cache: &Cache) -> bool
-    requires { 474 ≤ length file.now }
+pub(crate) fn is_current(file: &RegisterFile, cache: &Cache) -> bool
     ensures { result ≡ current_of file.now cache.now }
 {
     match &cache.kept {
         None => false,
-        Some(kept) => current(file, kept),
+        Some(kept) => are_kept(file, kept),
     }
 }

@@ -1,12 +1,28 @@
--- `decoding::decode` meets its contract: the law's `read` is on where the test says so, and then holds what `lighting` ensures; else it is off.
-use mathlib.Core.Path.{sym, ◌∙◌}
-use Rattle.decoding.specs.DecodeLaws.{read-lit, read_unlit}
+-- `decoding::decode` meets its contract. Nothing that is read stands after the first 474 words, and a register that a shorter file doesn't have reads as 0.
+use Rattle.std.proofs.Common.{rules, ℕ, arith, sym, ◌∙◌, ◌≡◌, ◌≤◌, ◌<◌, length}
+use Rattle.std.proofs.lemmas.List.{drop-replicate}
+use lib.Seq.{length-take-le}
+use Rattle.decoding.specs.FileLaws.{read_first, read_padded}
 use Rattle.decoding.proofs.decode.Goals as goal
 
-pub returns-then-is_on : goal.returns-then-is_on
-returns-then-is_on c =
-    let a = c.args in
-    rw c.lighting.ensures (sym (read-lit a.file.now (sym c.is_on.ensures ∙ c.if-is_on.true)))
+pub returns-in-Some : goal.returns-in-Some
+returns-in-Some c = rw (c.decode_registers.ensures, c.in-Some.ensures.cases.same) (read_first c.args.file.now)
 
-pub returns-else-is_on : goal.returns-else-is_on
-returns-else-is_on c = sym (read_unlit c.args.file.now (sym c.is_on.ensures ∙ c.if-is_on.false))
+pub slice_bounds-words-end : goal.slice_bounds-words-end
+slice_bounds-words-end c =
+    let short : length c.args.file.now < 474 = c.in_default.ensures.cases in
+    omega arith
+
+pub slice_bounds-copy_from_slice-end : goal.slice_bounds-copy_from_slice-end
+slice_bounds-copy_from_slice-end c =
+    let short : length c.args.file.now < 474 = c.in_default.ensures.cases in
+    sym (length-take-le _ _ (omega arith))
+
+pub copy_from_slice-requires : goal.copy_from_slice-requires
+copy_from_slice-requires c =
+    let short : length c.args.file.now < 474 = c.in_default.ensures.cases in
+    length-take-le _ _ (omega arith)
+
+pub returns : goal.returns
+returns c =
+    rw (c.decode_registers-2.ensures, c.copy_from_slice.ensures.after, drop-replicate {X = ℕ} (length c.args.file.now) 474 0) (read_padded c.args.file.now _)

@@ -2,21 +2,12 @@
 -- and the lights on are the first of the eight.
 use Rattle.fields.specs.Fields.{colour_of}
 use Rattle.decoding.specs.Steps.{four_colours, lights_of, lit_lights, needs_half, needs_view, lighting_of}
-use Rattle.std.proofs.Common.{◌≡◌, ℕ, ◌≤◌, List, length, sym}
-use lib.Seq.{length-take-le}
-use Rattle.lighting.specs.declared.Light.{Light}
-use Rattle.decoding.specs.Read.{light_count}
-use Rattle.decoding.specs.LightLaws.{count_high, lights_length}
+use Rattle.std.proofs.Common.{◌≡◌}
+use Rattle.decoding.specs.LightLaws.{count_high}
 use Rattle.decoding.proofs.register_lighting.lighting.Goals as goal
 
-on_within : (f : List ℕ) (n : ℕ) (lights : List Light) → n ≡ light_count f → lights ≡ lights_of f → n ≤ length lights
-on_within f n lights p q = rw (p, q, lights_length f) (count_high f)
-
-pub slice_bounds-lights-end : goal.slice_bounds-lights-end
-slice_bounds-lights-end c = on_within c.args.file.now _ _ c.light_count-count.ensures c.lights-lights.ensures
-
-pub slice_bounds-on-end : goal.slice_bounds-on-end
-slice_bounds-on-end c = sym (length-take-le _ _ (on_within c.args.file.now _ _ c.light_count-count.ensures c.lights-lights.ensures))
+pub some_light-some-requires : goal.some_light-some-requires
+some_light-some-requires c = rw c.light_count-count.ensures (count_high c.args.file.now)
 
 pub returns : goal.returns
 unfolding lighting_of needs_half needs_view lit_lights four_colours colour_of
@@ -27,8 +18,8 @@ returns c =
       c.light_count-count.ensures,
       c.lights-lights.ensures,
       c.lookups-tables.ensures,
-      c.any_spotlight-spotlit.ensures,
-      c.any_geometric.ensures,
+      c.some_light-some.ensures.0,
+      c.some_light-some.ensures.1,
       c.half_input.ensures,
       c.view_input.ensures,
       c.register.ensures,

@@ -1,30 +1,17 @@
 -- `head_words::put_head` meets its contract: its rows, one after another, are the definition's. A count and units in range fit their words.
---
 use native.Mathlib.Omega.{arith}
-use mathlib.Core.Path.{ap, ◌∙◌}
-use lib.ListN.{length}
 use Rattle.block.proofs.PackedLaws.{range_bump, range_shadow, range_count}
-use Rattle.packing.specs.PutLaws.{length-put}
 use Rattle.packing.proofs.head_words.Head.{head_put}
 use Rattle.packing.proofs.head_words.put_head.Goals as goal
 
 pub overflow_cast-l : goal.overflow_cast-l
-overflow_cast-l c = omega (arith, range_count _ c.requires.1)
+overflow_cast-l c = omega (arith, range_count _ c.requires)
 
 pub bump_word-requires : goal.bump_word-requires
-bump_word-requires c = range_bump _ c.requires.1
+bump_word-requires c = range_bump _ c.requires
 
 pub shadow_word-requires : goal.shadow_word-requires
-shadow_word-requires c = range_shadow _ c.requires.1
-
-pub put_row-requires-2 : goal.put_row-requires-2
-put_row-requires-2 c = omega (arith, ap length c.put_row.ensures ∙ length-put _ _ _, c.requires.0)
-
-pub put_lookups-requires : goal.put_lookups-requires
-put_lookups-requires c = ap length c.put_row-2.ensures ∙ length-put _ _ _ ∙ ap length c.put_row.ensures ∙ length-put _ _ _ ∙ c.requires.0
-
-pub put_vector-requires : goal.put_vector-requires
-put_vector-requires c = omega (arith, ap length c.put_lookups.ensures ∙ length-put _ _ _ ∙ ap length c.put_row-2.ensures ∙ length-put _ _ _ ∙ ap length c.put_row.ensures ∙ length-put _ _ _ ∙ c.requires.0)
+shadow_word-requires c = range_shadow _ c.requires
 
 pub returns : goal.returns
 returns c = head_put _ _ _ _ _ _ _ _ _ _

@@ -1,5 +1,5 @@
 -- `lent::is_formed` meets its contract: each case of the block's form says whether shading takes it (LentLaws: form_formed).
-use Rattle.std.proofs.Common.{◌≡◌, refl, not, ap, ◌∙◌}
+use Rattle.std.proofs.Common.{rules, ◌≡◌, refl, not, ap, ◌∙◌}
 use Rattle.sources.proofs.WordsLaws.{word_values}
 use Rattle.block.specs.Steps.{block_form}
 use Rattle.unit.specs.Steps.{is_formed}
@@ -15,4 +15,4 @@ returns c =
       | in-NotWellFormed w ↦ rw (w.matches-is, w.in-NotWellFormed.is) refl
       | in_default w ↦ rw (w.matches-is, other_formed _ w.in_default.not-NotWellFormed) refl
     ] in
-    told ∙ ap is_formed (c.form.ensures ∙ ap block_form (word_values c.args.block.now)) ∙ form_formed c.args.block.now c.requires
+    told ∙ ap is_formed (c.form.ensures ∙ ap block_form (word_values c.args.block.now)) ∙ form_formed c.args.block.now (search rules)

@@ -9,7 +9,8 @@ pub returns-then-cache-eq0 : goal.returns-then-cache-eq0
 returns-then-cache-eq0 c =
     let k = c.args.cache.now in
     let b = cache_block k in
-    let n : length b ≡ 328 = length-drop 140 k ∙ omega (arith, c.requires.0) in
+    let whole = c.requires.0 in
+    let n : length b ≡ 328 = length-drop 140 k ∙ omega (arith, whole) in
     let r = off_block b n c.requires.2 (get_or-drop 140 k 1 0 ∙ c.if-cache-eq0.true) in
     (c.fill.ensures.after (λ y e. e) ∙ ap (λ (m : ℕ). replicate m 0) c.requires.1 ∙ r.0, r.1)
 
@@ -17,5 +18,6 @@ pub returns : goal.returns
 returns c =
     let k = c.args.cache.now in
     let b = cache_block k in
-    let n : length b ≡ 328 = length-drop 140 k ∙ omega (arith, c.requires.0) in
-    (c.copy_from_slice.ensures.after ∙ block_part k c.requires.0, lit_block b n (λ e. c.if-cache-eq0.false (sym (get_or-drop 140 k 1 0) ∙ e)))
+    let whole = c.requires.0 in
+    let n : length b ≡ 328 = length-drop 140 k ∙ omega (arith, whole) in
+    (c.copy_from_slice.ensures.after ∙ block_part k whole, lit_block b n (λ e. c.if-cache-eq0.false (sym (get_or-drop 140 k 1 0) ∙ e)))

@@ -1,7 +1,7 @@
--- `decoding::is_on` meets its contract: the test is that of the steps, which says whether the law's `read` is on.
+-- `decoding::registers_on` meets its contract: the test is that of the steps, which says whether the law's `read` is on.
 use Rattle.decoding.specs.DecodeLaws.{read-on}
 use Rattle.decoding.specs.Steps.{lighting_on}
-use Rattle.decoding.proofs.is_on.Goals as goal
+use Rattle.decoding.proofs.registers_on.Goals as goal
 
 pub returns : goal.returns
 unfolding lighting_on
