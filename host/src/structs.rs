@@ -1,4 +1,4 @@
-//! Document 01's calls on the structs, a lighting and a cache by value, as a library for comparisons has them on
+//! Document 01's calls on the structs, a lighting by value and a cache, as a library for comparisons has them on
 //! slices of words. Each returns document 01's number, or 100 where the lighting is off.
 
 use crate::boundary::Copy;

@@ -1,5 +1,5 @@
 //! Cached reads and hand-overs of the proved code, beside the Rust module's `LastLighting::read` and `pack`: the
-//! library's, with a lent cache, and those on the structs, with a cache by value.
+//! library's, with a lent cache, and those on the structs, with a cache that is a struct.
 #![cfg(oracle)]
 
 use crate::blocks::{register_file, theirs};
@@ -47,14 +47,14 @@ pub fn their_read(file: &[u32], block: &mut Vec<u32>) {
 #[derive(Default, Debug)]
 pub struct Tally {
     /// calls of pairs of hand-overs on the structs, and hand-overs of the library
-    pub by_value: u64,
+    pub in_structs: u64,
     pub lent: u64,
     /// hand-overs of either that took the tables, found them of the same generation, and packed a lighting that is off
     pub taken: u64,
     pub kept: u64,
     pub off: u64,
     /// pairs of cached reads on the structs, the library's cached reads, and its reads
-    pub value_reads: u64,
+    pub struct_reads: u64,
     pub cached_reads: u64,
     pub reads: u64,
     /// refusals by their number, and of 101
@@ -150,7 +150,7 @@ impl Tally {
     }
 
     /// One to three pairs of hand-overs on the structs. The copy afterwards.
-    fn by_value(&mut self, given: &Given, pairs: u32) -> Copy {
+    fn in_structs(&mut self, given: &Given, pairs: u32) -> Copy {
         let [file, other] = &given.files;
         let (mut ours, mut due) = (given.copy.clone(), given.copy.clone());
         let number = structs::hand_overs([file, other], &given.tables, given.generations, &mut ours, pairs);
@@ -162,7 +162,7 @@ impl Tally {
                 self.count(expected, before != generation, &due);
             }
         }
-        self.by_value += 1;
+        self.in_structs += 1;
         self.check(number == expected && ours == due, &format!("{pairs} pairs of hand-overs on the structs"), (number, expected), given);
         due
     }
@@ -210,7 +210,7 @@ impl Tally {
         };
 
         let due = first_of(&[(short, 1), (lit.is_none(), OFF), (wrong_block, 6)]);
-        self.value_reads += 1;
+        self.struct_reads += 1;
         self.read("cached reads on the structs", due, &block(due, &[]), given, |b| structs::cached_reads([file, other], b));
 
         let due = first_of(&[(short, 1), (wrong_block, 6), (true, number)]);
@@ -241,7 +241,7 @@ pub fn compare(calls: u64, seed: u64) -> Tally {
         tables[r.below(TABLE_WORDS as u32) as usize] = r.word();
         let given = Given::draw(&tables, &copy, &mut r);
         let pairs = 1 + r.below(3);
-        let after = tally.by_value(&given, pairs);
+        let after = tally.in_structs(&given, pairs);
         tally.lent(&given, &mut cache);
         if r.below(64) == 0 {
             cache.fill(0);

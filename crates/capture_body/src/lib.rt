@@ -37,16 +37,17 @@ fn hand_over(
 {
     let Held {
         generation,
+        mut cache,
+        mut age,
+    } = held;
+    // refused, it leaves the cache and the copy
+    let _ = unit::handing_over::hand_over(
+        file, tables, generation, &mut cache, block, copied, &mut age,
+    );
+    Held {
+        generation,
         cache,
         age,
-    } = held;
-    match unit::handing_over::hand_over(file, tables, generation, cache, block, copied, age) {
-        Ok(over) => Held {
-            generation,
-            cache: over.cache,
-            age: over.generation,
-        },
-        Err(_) => held,
     }
 }
 

@@ -9,7 +9,7 @@ use Rattle.lighting.specs.declared.Lighting.{Lighting}
 use Rattle.decoding.specs.Read.{FileRead, file_read, file_read_of}
 use Rattle.block.specs.Block.{packing, BlockAnswer, block_read, answer_of}
 use Rattle.unit.specs.declared.Cache.{Cache}
-use Rattle.unit.specs.Unit.{Cached, fresh_cache, cached_read, cached_of}
+use Rattle.unit.specs.Unit.{Cached, cached, fresh_cache, cached_read}
 use Rattle.shading.specs.Shade.{shaded}
 use Rattle.structs_abi.specs.Composed.{shades_reading, shades_if, shades_of, shade_file, shade_reading, packs_if, cached_reads}
 
@@ -37,28 +37,21 @@ module _ (t q a : List ℕ) (n : length q ≡ 23) where
   pub read_refused : (b : List ℕ) (k : Refusal) → answer_of (Err k) ≡ block_read b → shaded (number_of k) a ≡ shade_reading b t q a
   read_refused b k e = gives_number (number_of k) _ (refusal_not_zero k) ∙ ap (λ (x : BlockAnswer). shades_of (fragment_refusal (length q)) x.number x.reading t q a) e
 
--- a read that is refused leaves the cache
-cache_after : (r : Result Cache Refusal) (c : Cache) → (cached_of r c).cache ≡ result_unwrap_or r c
-cache_after (Ok d) c = refl
-cache_after (Err k) c = refl
+refused_number : (b : List ℕ) (m : ℕ) (l : Option Lighting) → (m ≡ 0 → ⊥) → packing m b ≡ packs_if m l b
+unfolding packs_if
+refused_number b zero l h = absurd (h refl)
+refused_number b (suc m) l h = refl
 
--- two cached reads, of which the first left the cache d
-module _ (f o b : List ℕ) (c d : Cache) (r s : Result Cache Refusal) (ec : c ≡ fresh_cache) (er : cached_of r c ≡ cached_read f c) (ed : d ≡ result_unwrap_or r c) (es : cached_of s d ≡ cached_read o d) where
-  by_second : packs_if (cached_of s d).number (cached_of s d).cache.decoded b ≡ cached_reads f o b
+-- two cached reads, of which the first answered j and left the cache d, and the second k and e
+module _ (f o b : List ℕ) (c d e : Cache) (j k : ℕ) (ec : c ≡ fresh_cache) (ed : cached j d ≡ cached_read f c) (ee : cached k e ≡ cached_read o d) where
+  by_second : packs_if k e.decoded b ≡ cached_reads f o b
   by_second =
       ap (λ (x : Cached Cache). packs_if x.number x.cache.decoded b)
-      (es ∙ ap (cached_read o) (ed ∙ sym (cache_after r c) ∙ ap (λ (x : Cached Cache). x.cache) (er ∙ ap (cached_read f) ec)))
+      (ee ∙ ap (cached_read o) (ap (λ (x : Cached Cache). x.cache) (ed ∙ ap (cached_read f) ec)))
 
-  pub packs_done : (e : Cache) → s ≡ Ok e → packs_if 0 e.decoded b ≡ cached_reads f o b
-  packs_done e z = ap (λ (x : Result Cache Refusal). packs_if (cached_of x d).number (cached_of x d).cache.decoded b) (sym z) ∙ by_second
+  pub packs_done : k ≡ 0 → packs_if 0 e.decoded b ≡ cached_reads f o b
+  packs_done z = ap (λ (n : ℕ). packs_if n e.decoded b) (sym z) ∙ by_second
 
-  refused_number : (m : ℕ) (l : Option Lighting) → (m ≡ 0 → ⊥) → packing m b ≡ packs_if m l b
-  unfolding packs_if
-  refused_number zero l h = absurd (h refl)
-  refused_number (suc m) l h = refl
-
-  pub packs_refused : (k : Refusal) → s ≡ Err k → packing (number_of k) b ≡ cached_reads f o b
-  packs_refused k z =
-      refused_number (number_of k) d.decoded (refusal_not_zero k)
-      ∙ ap (λ (x : Result Cache Refusal). packs_if (cached_of x d).number (cached_of x d).cache.decoded b) (sym z)
-      ∙ by_second
+  pub packs_refused : (q : Refusal) → k ≡ number_of q → packing (number_of q) b ≡ cached_reads f o b
+  packs_refused q z =
+      refused_number b (number_of q) e.decoded (refusal_not_zero q) ∙ ap (λ (n : ℕ). packs_if n e.decoded b) (sym z) ∙ by_second

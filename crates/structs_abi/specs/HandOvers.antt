@@ -1,9 +1,7 @@
 -- For tests alone: hand-overs of two register files in turn. Definitions only.
 use Rattle.std.specs.Prelude.{ℕ, zero, suc, List}
-use Rattle.refusals.specs.Refusals.{outcome_number}
 use Rattle.unit.specs.Unit.{Handed, handed, hand_over}
 use Rattle.unit.specs.declared.Cache.{Cache}
-use Rattle.structs_abi.specs.declared.LastHandOver.{LastHandOver}
 
 -- a hand-over from what the last one left
 unfoldable pub next : List ℕ → List ℕ → ℕ → Handed Cache → Handed Cache
@@ -13,10 +11,6 @@ next f t g h = hand_over f t g h.cache h.block h.tables h.generation
 unfoldable pub hand_overs : List ℕ → List ℕ → List ℕ → ℕ → ℕ → ℕ → Handed Cache → Handed Cache
 hand_overs f o t g k zero h = h
 hand_overs f o t g k (suc n) h = hand_overs f o t g k n (next o t k (next f t g h))
-
--- what a last hand-over says in these terms, where it left the copy's block b and tables t
-abbrev pub handed_over : LastHandOver → List ℕ → List ℕ → Handed Cache
-handed_over h b t = handed (outcome_number h.outcome) h.left.cache b t h.left.generation
 
 -- what is told of them: the last one's number, and the copy's block, tables and generation
 pub record Copied : Type 0 where

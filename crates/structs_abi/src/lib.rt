@@ -1,4 +1,4 @@
-// Document 01's calls on the structs under plain names, for the host's comparisons with the Rust module: a library for tests alone. A lighting and a cache by value
+// Document 01's calls on the structs under plain names, for the host's comparisons with the Rust module: a library for tests alone. A lighting and a cache
 // can't cross the C boundary, so each call here makes them, passes them on and gives words.
 #![tactic(auto)]
 
@@ -8,12 +8,11 @@ ghost use Rattle.block.specs.Block.{packing as packing_as};
 ghost use Rattle.block_shading.specs.BlockShading.{block_shading};
 ghost use Rattle.unit.specs.Unit.{fresh_cache, handed};
 ghost use Rattle.structs_abi.specs.Composed.{shades_reading, packs_if, shade_file, shade_reading, cached_reads};
-ghost use Rattle.structs_abi.specs.HandOvers.{next, copied as copied_as, copy_of, handed_over, hand_overs};
+ghost use Rattle.structs_abi.specs.HandOvers.{copied as copied_as, copy_of, hand_overs};
 
 use block_shading::fragments;
 use lighting::Lighting;
 use refusals::{Refusal, Switch};
-use unit::HandedOver;
 
 // A fragment shaded by a reading, or 100.
 fn shade_reading(
@@ -104,45 +103,12 @@ fn pack_reading(reading: Option<Lighting>, block: &mut [u32]) -> u32
 pub extern "C" fn structs_cached_reads(file: &[u32], other: &[u32], block: &mut [u32]) -> u32
     ensures { packing_as result block.new ≡ cached_reads file.now other.now block.old }
 {
-    let fresh = unit::fresh_cache();
-    let first = unit::reading::cached_read(file, fresh).unwrap_or(fresh);
-    match unit::reading::cached_read(other, first) {
-        Ok(cache) => pack_reading(cache.decoded, block),
+    let mut cache = unit::fresh_cache();
+    // refused, it leaves the cache
+    let _ = unit::reading::cached_read(file, &mut cache);
+    match unit::reading::cached_read(other, &mut cache) {
+        Ok(()) => pack_reading(cache.decoded, block),
         Err(refusal) => u32::from(refusal),
-    }
-}
-
-// What the last hand-over answered, and the cache and the copy's generation after it: refused, those before it.
-#[derive(Clone, Copy)]
-struct LastHandOver {
-    outcome: Result<(), Refusal>,
-    left: HandedOver,
-}
-
-// A hand-over from what the last one left.
-fn next(
-    file: &[u32],
-    tables: &[u32],
-    generation: u64,
-    last: LastHandOver,
-    block: &mut [u32],
-    copied: &mut [u32],
-) -> LastHandOver
-    ensures { handed_over result block.new copied.new ≡ next file.now tables.now generation (handed_over last block.old copied.old) }
-{
-    let HandedOver {
-        cache,
-        generation: age,
-    } = last.left;
-    match unit::handing_over::hand_over(file, tables, generation, cache, block, copied, age) {
-        Ok(left) => LastHandOver {
-            outcome: Ok(()),
-            left,
-        },
-        Err(refusal) => LastHandOver {
-            outcome: Err(refusal),
-            left: last.left,
-        },
     }
 }
 
@@ -162,17 +128,12 @@ pub extern "C" fn structs_hand_overs(
 ) -> u32
     ensures { copied_as result block.new copied.new age.new ≡ copy_of (hand_overs file.now other.now tables.now first second pairs (handed 0 fresh_cache block.old copied.old age.old)) }
 {
-    let mut state = LastHandOver {
-        outcome: Ok(()),
-        left: HandedOver {
-            cache: unit::fresh_cache(),
-            generation: *age,
-        },
-    };
+    let mut cache = unit::fresh_cache();
+    let mut last = Ok(());
     for _ in 0..pairs {
-        state = next(file, tables, first, state, block, copied);
-        state = next(other, tables, second, state, block, copied);
+        // refused, it leaves all as it is, and its number is not asked for
+        let _ = unit::handing_over::hand_over(file, tables, first, &mut cache, block, copied, age);
+        last = unit::handing_over::hand_over(other, tables, second, &mut cache, block, copied, age);
     }
-    *age = state.left.generation;
-    refusals::outcome_number(state.outcome)
+    refusals::outcome_number(last)
 }

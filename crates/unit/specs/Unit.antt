@@ -10,7 +10,6 @@ use Rattle.lighting.specs.declared.Lighting.{Lighting}
 use Rattle.decoding.specs.Read.{read, registers_read}
 use Rattle.block.specs.Block.{accepted, packed_reading, Packing, packing}
 use Rattle.unit.specs.declared.Cache.{Cache}
-use Rattle.unit.specs.declared.HandedOver.{HandedOver}
 
 -- ---- The cache
 
@@ -57,11 +56,6 @@ cached_read_if (suc k) f c = cached (suc k) c
 -- "Read and cached read: 1." File, cache.
 abbrev pub cached_read : List ℕ → Cache → Cached Cache
 cached_read f c = cached_read_if (file_refusal (length f)) f c
-
--- what the function's answer says in these terms, where the call found the cache c
-abbrev pub cached_of : Result Cache Refusal → Cache → Cached Cache
-cached_of (Ok n) c = cached 0 n
-cached_of (Err k) c = cached (number_of k) c
 
 -- ---- Both reads across the C boundary, where a lighting is its block: the reading, and then its pack
 
@@ -146,8 +140,3 @@ hand_over_if (suc k) f t g c b ct cg = handed (suc k) c b ct cg
 abbrev pub hand_over : List ℕ → List ℕ → ℕ → Cache → List ℕ → List ℕ → ℕ → Handed Cache
 hand_over f t g c b ct cg =
     hand_over_if (hand_over_refusal (length f) (length t) (length ct) (length b)) f t g c b ct cg
-
--- what the function's answer says in these terms, where the call found the cache c and the copy's generation g, and left the block b and the copy's tables t
-abbrev pub handed_of : Result HandedOver Refusal → Cache → List ℕ → List ℕ → ℕ → Handed Cache
-handed_of (Ok h) c b t g = handed 0 h.cache b t h.generation
-handed_of (Err k) c b t g = handed (number_of k) c b t g

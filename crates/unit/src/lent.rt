@@ -21,7 +21,7 @@ const CACHE_WORDS: usize = 468;
 // Where the block begins.
 const CACHE_BLOCK: usize = 140;
 
-// Why a call on lent words is refused: as a call on a cache by value is, or for a cache of another length.
+// Why a call on lent words is refused: as a call on a cache that is a struct is, or for a cache of another length.
 #[derive(Clone, Copy, PartialEq, Eq)]
 enum LentRefusal {
     Refused(Refusal),

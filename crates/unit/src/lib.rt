@@ -1,5 +1,4 @@
-// A unit's cache, fresh or read anew, and what a hand-over answers. `reading` is the cached read, `taking` what a copy takes, `handing_over` the hand-over, all three on a
-// cache by value; `lengths` the refusals by length; `lent` has the calls on a cache that is lent words, which a renderer links.
+// A unit's cache, fresh or read anew. `reading` is the cached read, `taking` what a copy takes, `handing_over` the hand-over, all three on a cache that is a struct; `lengths` the refusals by length; `lent` has the calls on a cache that is lent words, which a renderer links.
 #![tactic(auto)]
 
 pub mod handing_over;
@@ -21,13 +20,6 @@ use lighting::Lighting;
 pub struct Cache {
     pub kept: Option<[u32; 139]>,
     pub decoded: Option<Lighting>,
-}
-
-// The cache that a hand-over's read left, and the copy's generation.
-#[derive(Clone, Copy)]
-pub struct HandedOver {
-    pub cache: Cache,
-    pub generation: u64,
 }
 
 // An empty cache.

@@ -3,7 +3,7 @@
 //! Prints ns for each, the least of many rounds that take turns, and the ratio. Hand-overs stand beside the module's
 //! `LastLighting::read` and `pack`, with registers that stay and with one that changes each time, with tables that stay
 //! and with new ones each time: (a) `lighting_hand_over` with a lent cache, one call for each; (b) the structs' own,
-//! with the cache by value, many in one call. Restore and save stand beside a plain memory copy, and writes beside the
+//! with the cache a struct, many in one call. Restore and save stand beside a plain memory copy, and writes beside the
 //! module's `Tables::write` with a plain register file: (a) `lighting_write`, (b) `lighting_writes` of 256 in one call.
 fn main() {
     #[cfg(oracle)]
@@ -57,7 +57,7 @@ mod timed {
 
     fn hand_overs(files: [&[u32]; 2], generations: [u64; 2]) -> [f64; 3] {
         let tables = generated(1, TABLE_WORDS);
-        let (mut copy, mut value_copy, mut their_copy) = (Copy::default(), Copy::default(), TheirCopy::default());
+        let (mut copy, mut struct_copy, mut their_copy) = (Copy::default(), Copy::default(), TheirCopy::default());
         let mut cache = vec![0; CACHE_WORDS];
         let mut theirs = || {
             for _ in 0..PAIRS {
@@ -75,16 +75,16 @@ mod timed {
                 }
             }
         };
-        let mut by_value = || {
-            assert_eq!(structs::hand_overs(black_box(files), &tables, generations, &mut value_copy, PAIRS as u32), 0);
+        let mut in_structs = || {
+            assert_eq!(structs::hand_overs(black_box(files), &tables, generations, &mut struct_copy, PAIRS as u32), 0);
         };
-        let best = least(ROUNDS, 2 * PAIRS, [&mut theirs, &mut lent, &mut by_value]);
-        assert!(copy == value_copy, "the copies differ");
+        let best = least(ROUNDS, 2 * PAIRS, [&mut theirs, &mut lent, &mut in_structs]);
+        assert!(copy == struct_copy, "the copies differ");
         best
     }
 
     fn hand_over_rows() {
-        heading("ns for each hand-over", "Rust", &["(a) lent", "(b) value"]);
+        heading("ns for each hand-over", "Rust", &["(a) lent", "(b) struct"]);
         let mut off = file(1, false);
         off[0x08F] = 0;
         let scenes = [

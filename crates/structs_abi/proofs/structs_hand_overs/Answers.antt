@@ -22,12 +22,13 @@ module _ (f o t : List ℕ) (g k : ℕ) where
       rw (z, e) refl
 
 pub loop-init : goal.loop-init
-loop-init c = let e : c.args.pairs - 0 ≡ c.args.pairs = omega arith in rw (c.fresh_cache.ensures, e)
+loop-init c = let e : c.args.pairs - 0 ≡ c.args.pairs = omega arith in rw (c.fresh_cache-cache.ensures, e)
 
 pub loop-preserved : goal.loop-preserved
+unfolding next
 loop-preserved c =
     let a = c.args in
-    pair a.file.now a.other.now a.tables.now a.first a.second a.pairs c.loop.counter _ _ _ (omega arith) c.next-state.ensures c.next-state-in-loop.ensures ∙ c.loop.invariant
+    pair a.file.now a.other.now a.tables.now a.first a.second a.pairs c.loop.counter _ _ _ (omega arith) c.hand_over.ensures c.hand_over-last.ensures ∙ c.loop.invariant
 
 pub returns : goal.returns
 returns c =
