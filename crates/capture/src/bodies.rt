@@ -8,7 +8,7 @@ ghost use Rattle.capture_body.specs.Steps.{lent_state};
 ghost use Rattle.capture_calls.specs.Steps.{calls_of, copy_prints};
 
 use capture_body::{Held, run_body};
-use capture_check::contents::{body_words, triples};
+use capture_check::contents::{Entry, body_words, triples};
 use printing::Lines;
 
 // The bodies of a capture whose form is right, in order; what is held afterwards.
@@ -27,9 +27,10 @@ pub(crate) fn run_bodies(
     ensures text { Adds lines.old lines.new (copy_prints words.now (contents words.now) (lent_state file.old tables.old block.old copied.old held)) }
 {
     let mut held = held;
-    for [kind, offset, size] in triples(words) {
-        let body = body_words(words, *offset, *size);
-        held = run_body(*kind, body, file, tables, block, copied, held, lines);
+    for triple in triples(words) {
+        let entry = Entry::from(*triple);
+        let body = body_words(words, entry);
+        held = run_body(entry.kind, body, file, tables, block, copied, held, lines);
     }
     held
 }

@@ -1,8 +1,8 @@
 // A capture's size, its contents, and where a body of them may stand.
-ghost use Rattle.std.specs.Prelude.{◌≡◌, ◌+◌, ◌≤◌, ℕ, length};
-ghost use Rattle.capture_check.specs.Contents.{body_count, contents_end, contents, words_in, body as body_of, sized as sized_of, lies as lies_of};
+ghost use Rattle.std.specs.Prelude.{◌≡◌, ◌+◌, ◌≤◌, length};
+ghost use Rattle.capture_check.specs.Contents.{body_count, contents_end, contents, words_in, sized as sized_of, lies as lies_of};
 ghost use Rattle.capture_check.specs.Kinds.{kind_of, takes};
-ghost use Rattle.capture_check.specs.Steps.{bodies};
+ghost use Rattle.capture_check.specs.Steps.{bodies, named, named_by};
 
 // What a body holds: register writes, fragments, or the tables to restore.
 #[derive(Clone, Copy)]
@@ -39,6 +39,40 @@ impl BodyKind {
     }
 }
 
+// What the contents say of a body: the number of its kind, where it stands, and how many words it has.
+#[derive(Clone, Copy)]
+pub struct Entry {
+    pub kind: u32,
+    pub offset: u32,
+    pub size: u32,
+}
+
+impl From<[u32; 3]> for Entry {
+    fn from(triple: [u32; 3]) -> Entry
+        ensures { named result ≡ named_by triple }
+    {
+        let [kind, offset, size] = triple;
+        Entry { kind, offset, size }
+    }
+}
+
+impl Entry {
+    // Whether the body may stand at `at`, of `end` words.
+    pub(crate) fn lies(self, at: usize, end: usize) -> bool
+        requires { at ≤ end }
+        ensures { result ≡ lies_of (named self) at end }
+    {
+        let size = self.size as usize;
+        if self.offset as usize != at {
+            return false;
+        }
+        if end - at < size {
+            return false;
+        }
+        BodyKind::from_number(self.kind).is_some_and(|kind| kind.takes(size))
+    }
+}
+
 // Whether an input of n bytes can be a capture.
 #[tactic(auto, unfolding(crate::specs::Contents::sized))]
 pub fn sized(n: usize) -> bool
@@ -57,26 +91,12 @@ pub fn triples(words: &[u32]) -> &[[u32; 3]]
     words[1..end].as_chunks::<3>().0
 }
 
-// Whether a body with this triple may stand at `at`, of `end` words.
-pub(crate) fn lies(kind: u32, offset: usize, size: usize, at: usize, end: usize) -> bool
-    requires { at ≤ end }
-    ensures { result ≡ lies_of (body_of kind offset size) at end }
-{
-    if offset != at {
-        return false;
-    }
-    if end - at < size {
-        return false;
-    }
-    BodyKind::from_number(kind).is_some_and(|kind| kind.takes(size))
-}
-
-// The words of a body of this offset and size.
+// The words of a body.
 // Asks: it ends within the words, as each body of a capture whose form is right.
-pub fn body_words(words: &[u32], offset: u32, size: u32) -> &[u32]
-    requires { offset + size ≤ length words.now }
-    ensures { (kind : ℕ) → result.now ≡ words_in words.now (body_of kind offset size) }
+pub fn body_words(words: &[u32], entry: Entry) -> &[u32]
+    requires { entry.offset + entry.size ≤ length words.now }
+    ensures { result.now ≡ words_in words.now (named entry) }
 {
-    let from = offset as usize;
-    &words[from..from + size as usize]
+    let from = entry.offset as usize;
+    &words[from..from + entry.size as usize]
 }

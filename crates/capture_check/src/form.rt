@@ -3,7 +3,7 @@ ghost use Rattle.std.specs.Prelude.{◌≡◌, ◌≤◌};
 ghost use Rattle.capture_check.specs.Contents.{gapless as gapless_of, shaped as shaped_of};
 ghost use Rattle.capture_check.specs.Steps.{bodies};
 
-use crate::contents::{lies, triples};
+use crate::contents::{Entry, triples};
 
 // Whether the bodies follow each other without gaps, from `start` to `end`.
 fn gapless(contents: &[[u32; 3]], start: usize, end: usize) -> bool
@@ -11,12 +11,12 @@ fn gapless(contents: &[[u32; 3]], start: usize, end: usize) -> bool
     ensures { result ≡ gapless_of (bodies contents.now) start end }
 {
     let mut at = start;
-    for [kind, offset, size] in contents {
-        let size = *size as usize;
-        if !lies(*kind, *offset as usize, size, at, end) {
+    for triple in contents {
+        let entry = Entry::from(*triple);
+        if !entry.lies(at, end) {
             return false;
         }
-        at += size;
+        at += entry.size as usize;
     }
     at == end
 }

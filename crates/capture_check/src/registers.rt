@@ -3,7 +3,7 @@ ghost use Rattle.std.specs.Prelude.{◌≡◌};
 ghost use Rattle.capture_check.specs.Contents.{registers_in, body_right, registers_right};
 ghost use Rattle.capture_check.specs.Steps.{bodies, Within};
 
-use crate::contents::{BodyKind, body_words};
+use crate::contents::{BodyKind, Entry, body_words};
 
 // Whether each register of these register, value pairs is one.
 fn registers_in(words: &[u32]) -> bool
@@ -29,8 +29,9 @@ pub(crate) fn registers_right(words: &[u32], contents: &[[u32; 3]]) -> bool
     requires { Within words.now contents.now }
     ensures { result ≡ registers_right words.now (bodies contents.now) }
 {
-    for [kind, offset, size] in contents {
-        if !body_right(*kind, body_words(words, *offset, *size)) {
+    for triple in contents {
+        let entry = Entry::from(*triple);
+        if !body_right(entry.kind, body_words(words, entry)) {
             return false;
         }
     }

@@ -12,7 +12,7 @@ use Rattle.printing.specs.declared.Lines.{Lines}
 use Rattle.printing.specs.Steps.{Out, puts, so_far, Adds}
 use Rattle.printing.specs.AddedLaws.{added_due}
 use Rattle.printing.specs.TextLaws.{line_most, refused_most}
-use Rattle.printing.specs.Printing.{refused_line}
+use Rattle.printing.specs.Printing.{line, off_line, refused_line}
 use Rattle.refusals.specs.Refusals.{number_of}
 use Rattle.refusals.specs.declared.Refusal.{Refusal}
 use Rattle.refusals.specs.declared.Refusal.TheVariants.{ShortFile, WrongTables, HighRegister, LastGeneration, WrongSaved, WrongBlock, NotWellFormed, BadCapture, WrongFragment}
@@ -54,12 +54,12 @@ module _ (f : List ℕ → Shaded) (ws : List ℕ) where
 -- a line of eight numbers, `off` and `refused N` have at most 32 bytes
 line_fits : (s : Shaded) → length s.answer ≡ 8 → length (shown_line s) ≤ 32
 unfolding shown_line
-line_fits s e = go (eqb s.number 0) (eqb s.number 100) refl refl
+line_fits s e = go _ _
   where
-    go : (a b : Bool) → eqb s.number 0 ≡ a → eqb s.number 100 ≡ b → length (shown_line s) ≤ 32
-    go true b p q = rw p (omega (arith, line_most s.answer))
-    go false true p q = rw (p, q) (omega arith)
-    go false false p q = rw (p, q) (omega (arith, refused_most s.number))
+    go : (a b : Bool) → length (cond a (line s.answer) (cond b off_line (refused_line s.number))) ≤ 32
+    go true b = omega (arith, line_most s.answer)
+    go false true = omega arith
+    go false false = omega (arith, refused_most s.number)
 
 module _ (f : List ℕ → Shaded) (eight : (q : List ℕ) → length (f q).answer ≡ 8) where
   lines_fit : (n : ℕ) (ws : List ℕ) → length (fragment_lines f n ws) ≤ 32 * n

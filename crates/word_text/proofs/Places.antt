@@ -8,27 +8,26 @@ use mathlib.Core.Bool.{Bool, true, false}
 use lib.ListN.{length, drop, get_or, set, length-set, drop_of_length-le}
 use Rattle.std.specs.Prelude.{Option, Some, None}
 use Rattle.sources.specs.PieceLaws.{drop_one}
-use Rattle.word_text.specs.declared.Next.TheVariants.{Word, End, Malformed}
 use Rattle.word_text.specs.Text.{digit_of, with_digit, digits_of, is_gap, in_remark, next_of}
 use Rattle.word_text.specs.Load.{loaded, loaded_as}
 
 -- no digit left to read
-pub digits_done : (k n i : ℕ) (t : List ℕ) → k ≡ 0 → digits_of k n t i ≡ Word n i
+pub digits_done : (k n i : ℕ) (t : List ℕ) → k ≡ 0 → digits_of k n t i ≡ Some (n, i)
 unfolding digits_of
 digits_done k n i t e = rw e refl
 
 -- digits past the end
-pub digits_past : (k n i : ℕ) (t : List ℕ) → 0 < k → length t ≤ i → digits_of k n (drop i t) i ≡ Malformed
+pub digits_past : (k n i : ℕ) (t : List ℕ) → 0 < k → length t ≤ i → digits_of k n (drop i t) i ≡ None
 unfolding digits_of
 digits_past zero n i t p h = absurd (omega arith)
 digits_past (suc k) n i t p h = rw (drop_of_length-le t h) refl
 
-digits_at : (k n i : ℕ) (t : List ℕ) (o : Option ℕ) → i < length t → o ≡ digit_of (get_or t i 0) → digits_of (suc k) n (drop i t) i ≡ with_digit o (λ d. digits_of k (n * 16 + d) (drop (i + 1) t) (i + 1)) Malformed
+digits_at : (k n i : ℕ) (t : List ℕ) (o : Option ℕ) → i < length t → o ≡ digit_of (get_or t i 0) → digits_of (suc k) n (drop i t) i ≡ with_digit o (λ d. digits_of k (n * 16 + d) (drop (i + 1) t) (i + 1))
 unfolding digits_of
 digits_at k n i t o h e = rw (drop_one t i h, e) refl
 
 -- a byte that is no digit
-pub digits_none : (k n i : ℕ) (t : List ℕ) → 0 < k → i < length t → None ≡ digit_of (get_or t i 0) → digits_of k n (drop i t) i ≡ Malformed
+pub digits_none : (k n i : ℕ) (t : List ℕ) → 0 < k → i < length t → None ≡ digit_of (get_or t i 0) → digits_of k n (drop i t) i ≡ None
 digits_none zero n i t p h e = absurd (omega arith)
 digits_none (suc k) n i t p h e = digits_at k n i t None h e
 
@@ -45,7 +44,7 @@ pub room : (n d k j : ℕ) → j ≡ suc k → n < 16 ^ k → d < 16 → n * 16 
 room n d k j e h s = rw (e, pow-suc 16 k) (omega arith)
 
 -- the text's end
-pub next_end : (remark : Bool) (i : ℕ) (t : List ℕ) → length t ≤ i → next_of remark (drop i t) i ≡ End
+pub next_end : (remark : Bool) (i : ℕ) (t : List ℕ) → length t ≤ i → next_of remark (drop i t) i ≡ None
 unfolding next_of
 next_end remark i t h = rw (drop_of_length-le t h) refl
 
@@ -59,7 +58,7 @@ unfolding next_of
 next_word remark i t h e = rw (drop_one t i h, e) refl
 
 -- a word goes to its place, and one less is left to put
-pub load_word : (t : List ℕ) (at n : ℕ) (out : List ℕ) (w next : ℕ) → n < length out → next_of false (drop at t) at ≡ Word w next → loaded (length out - n) t at n out ≡ loaded (length (set out n w) - (n + 1)) t next (n + 1) (set out n w)
+pub load_word : (t : List ℕ) (at n : ℕ) (out : List ℕ) (w next : ℕ) → n < length out → next_of false (drop at t) at ≡ Some (w, next) → loaded (length out - n) t at n out ≡ loaded (length (set out n w) - (n + 1)) t next (n + 1) (set out n w)
 unfolding loaded
 load_word t at n out w next h e =
     let more : length out - n ≡ suc (length out - (n + 1)) = omega arith in rw (more, e, length-set out n w) refl
@@ -70,15 +69,10 @@ unfolding loaded next_of
 load_nothing zero out = refl
 load_nothing (suc k) out = refl
 
--- the text's end, and something else than a word
-pub load_end : (t : List ℕ) (at n : ℕ) (out : List ℕ) → n < length out → next_of false (drop at t) at ≡ End → loaded (length out - n) t at n out ≡ loaded_as n out
+-- no word
+pub load_none : (t : List ℕ) (at n : ℕ) (out : List ℕ) → n < length out → next_of false (drop at t) at ≡ None → loaded (length out - n) t at n out ≡ loaded_as n out
 unfolding loaded
-load_end t at n out h e =
-    let more : length out - n ≡ suc (length out - (n + 1)) = omega arith in rw (more, e) refl
-
-pub load_malformed : (t : List ℕ) (at n : ℕ) (out : List ℕ) → n < length out → next_of false (drop at t) at ≡ Malformed → loaded (length out - n) t at n out ≡ loaded_as n out
-unfolding loaded
-load_malformed t at n out h e =
+load_none t at n out h e =
     let more : length out - n ≡ suc (length out - (n + 1)) = omega arith in rw (more, e) refl
 
 -- a full list

@@ -1,7 +1,5 @@
 -- For tests alone: the words of a text, put into a list one after the other. Definitions only.
-use Rattle.std.specs.Prelude.{ℕ, zero, suc, ◌+◌, ◌≡◌, List, false, length, drop, set}
-use Rattle.word_text.specs.declared.Next.{Next}
-use Rattle.word_text.specs.declared.Next.TheVariants.{Word, End, Malformed}
+use Rattle.std.specs.Prelude.{ℕ, zero, suc, ◌+◌, ◌≡◌, List, false, length, drop, set, Option, Some, None}
 use Rattle.word_text.specs.Text.{next_of}
 
 -- how many words were put, and the list afterwards
@@ -13,10 +11,9 @@ abbrev pub loaded_as : ℕ → List ℕ → Loaded
 loaded_as n out = record { count = n; words = out }
 
 -- what follows a word, or what there is where none stands
-abbrev pub onward : Next → (ℕ → ℕ → Loaded) → Loaded → Loaded
-onward (Word w next) f d = f w next
-onward End f d = d
-onward Malformed f d = d
+abbrev pub onward : Option (ℕ × ℕ) → (ℕ → ℕ → Loaded) → Loaded → Loaded
+onward (Some (w, next)) f d = f w next
+onward None f d = d
 
 -- at most k words of the text t from the place `at` on, put into the list from its place n on
 unfoldable pub loaded : ℕ → List ℕ → ℕ → ℕ → List ℕ → Loaded

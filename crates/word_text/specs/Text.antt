@@ -1,24 +1,22 @@
 -- For tests alone: words written as text, as the data of the replay programs are, eight hexadecimal digits each, spaces and line ends between them, and remarks from `#` to the line's end.
 -- Definitions only.
 use Rattle.std.specs.Prelude.{ℕ, zero, suc, ◌+◌, ◌*◌, ◌-◌, List, [], ◌∷◌, Bool, true, false, cond, eqb, leb, ◌&&◌, Option, Some, None}
-use Rattle.word_text.specs.declared.Next.{Next}
-use Rattle.word_text.specs.declared.Next.TheVariants.{Word, End, Malformed}
 
 -- the digit that a byte writes: from `0` to `9` and from `A` to `F`; any other writes none
 unfoldable pub digit_of : ℕ → Option ℕ
 digit_of b =
     cond (leb 48 b && leb b 57) (Some (b - 48)) (cond (leb 65 b && leb b 70) (Some (b - 65 + 10)) None)
 
--- a digit's value to the function, or where there is none the other thing
-abbrev pub with_digit : Option ℕ → (ℕ → Next) → Next → Next
-with_digit (Some d) f m = f d
-with_digit None f m = m
+-- a digit's value to the function, or where there is none no word
+abbrev pub with_digit : Option ℕ → (ℕ → Option (ℕ × ℕ)) → Option (ℕ × ℕ)
+with_digit (Some d) f = f d
+with_digit None f = None
 
--- k digits of the text t, which starts at the place `at`, after digits that gave n
-unfoldable pub digits_of : ℕ → ℕ → List ℕ → ℕ → Next
-digits_of zero n t at = Word n at
-digits_of (suc k) n [] at = Malformed
-digits_of (suc k) n (b ∷ t) at = with_digit (digit_of b) (λ d. digits_of k (n * 16 + d) t (at + 1)) Malformed
+-- k digits of the text t, which starts at the place `at`, after digits that gave n: the word, and the place after it
+unfoldable pub digits_of : ℕ → ℕ → List ℕ → ℕ → Option (ℕ × ℕ)
+digits_of zero n t at = Some (n, at)
+digits_of (suc k) n [] at = None
+digits_of (suc k) n (b ∷ t) at = with_digit (digit_of b) (λ d. digits_of k (n * 16 + d) t (at + 1))
 
 -- whether a byte, in a remark or not, stands between words: `#`, a space, a line's end
 unfoldable pub is_gap : Bool → ℕ → Bool
@@ -29,8 +27,8 @@ is_gap false b = cond (eqb b 35) true (cond (eqb b 32) true (eqb b 10))
 unfoldable pub in_remark : Bool → ℕ → Bool
 in_remark remark b = cond (eqb b 10) false (cond remark true (eqb b 35))
 
--- the first word of the text t, which starts at the place `at`, in a remark or not
-unfoldable pub next_of : Bool → List ℕ → ℕ → Next
-next_of remark [] at = End
+-- the first word of the text t, which starts at the place `at`, in a remark or not; none at its end, or where something else stands
+unfoldable pub next_of : Bool → List ℕ → ℕ → Option (ℕ × ℕ)
+next_of remark [] at = None
 next_of remark (b ∷ t) at =
     cond (is_gap remark b) (next_of (in_remark remark b) t (at + 1)) (digits_of 8 0 (b ∷ t) at)

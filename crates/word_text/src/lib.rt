@@ -10,15 +10,6 @@ use std::fs;
 use std::io::Read;
 use std::rt::Files;
 
-// What stands next in a text.
-#[derive(Clone, Copy)]
-enum Next {
-    // a word, and the place after it
-    Word(u32, usize),
-    End,
-    Malformed,
-}
-
 // The digit that a byte writes.
 #[tactic(auto, unfolding(crate::specs::Text::digit_of))]
 fn digit(b: u8) -> Option<u32>
@@ -32,22 +23,19 @@ fn digit(b: u8) -> Option<u32>
     }
 }
 
-// The word whose eight digits start at `at`.
-fn digits(text: &[u8], at: usize) -> Next
+// The word whose eight digits start at `at`, and the place after it.
+fn digits(text: &[u8], at: usize) -> Option<(u32, usize)>
     requires { at ≤ length text.now }
     ensures { result ≡ digits_of 8 0 (drop at text.now) at }
 {
     let mut n: u32 = 0;
     for i in at..at + 8 {
         if i >= text.len() {
-            return Next::Malformed;
+            return None;
         }
-        let Some(d) = digit(text[i]) else {
-            return Next::Malformed;
-        };
-        n = n * 16 + d;
+        n = n * 16 + digit(text[i])?;
     }
-    Next::Word(n, at + 8)
+    Some((n, at + 8))
 }
 
 // Whether a byte stands between words: in a remark, or as its start, a space or a line's end.
@@ -66,8 +54,8 @@ fn in_remark(remark: bool, b: u8) -> bool
     b != b'\n' && (remark || b == b'#')
 }
 
-// The first word from `at` on, which is not in a remark.
-fn next_word(text: &[u8], at: usize) -> Next
+// The first word from `at` on, which is not in a remark, and the place after it; none at the text's end, or where something else stands.
+fn next_word(text: &[u8], at: usize) -> Option<(u32, usize)>
     ensures { result ≡ next_of false (drop at text.now) at }
 {
     let mut remark = false;
@@ -78,7 +66,7 @@ fn next_word(text: &[u8], at: usize) -> Next
         }
         remark = in_remark(remark, b);
     }
-    Next::End
+    None
 }
 
 // The words of a text into the front of `out`, until that is full, the text ends, or something else than a word stands there; how many there are.
@@ -88,18 +76,17 @@ fn load(text: &[u8], out: &mut [u32]) -> usize
 {
     let mut at = 0;
     for n in 0..out.len() {
-        match next_word(text, at) {
-            Next::Word(word, next) => {
-                out[n] = word;
-                at = next;
-            }
-            Next::End | Next::Malformed => return n,
-        }
+        let Some((word, next)) = next_word(text, at) else {
+            return n;
+        };
+        out[n] = word;
+        at = next;
     }
     out.len()
 }
 
-// Reads until the buffer is full, the file ends or a read fails; how many bytes were put at its front.
+// Reads until the buffer is full, the file ends or a read fails; how many bytes were put at its front. A loop over the reads, since a read may bring fewer bytes than there is room for;
+// `read_exact` would not say how many a file has that is shorter than the buffer, and `read_to_end` needs a heap.
 fn read_full(file: &mut impl Read, text: &mut [u8]) -> usize
     ensures { IsPrefixLen result text.new }
 {

@@ -4,7 +4,7 @@ use Rattle.std.proofs.Common.{ℕ, ◌≡◌, ◌+◌, ◌≤◌, ◌<◌, true,
 use Rattle.printing.specs.Steps.{puts}
 use Rattle.printing.specs.AddedLaws.{added_room}
 use Rattle.lists.specs.Calls.{run}
-use Rattle.capture_check.specs.Contents.{body_count, contents_end, gapless}
+use Rattle.capture_check.specs.Contents.{Body, body_count, contents_end, words_in, gapless}
 use Rattle.capture_check.specs.Steps.{bodies}
 use Rattle.capture_check.specs.ContentsLaws.{lies-offset, lies_end, gapless_head, gapless_rest, shaped_end, shaped-gapless}
 use Rattle.capture_check.specs.StepsLaws.{here, bodies_more, bodies_none}
@@ -28,13 +28,13 @@ module _ (ts : List (List ℕ)) (i at end : ℕ) (h : i < length ts) (g : gaples
   rest : gapless (bodies (drop (i + 1) ts)) (at + get_or (get_or ts i []) 2 0) end ≡ true
   rest = gapless_rest (here ts i h) (bodies (drop (i + 1) ts)) at end stands
 
-pub triples-kind-items-requires : goal.triples-kind-items-requires
-triples-kind-items-requires c = shaped_end _ c.requires.formed
+pub triples-triple-items-requires : goal.triples-triple-items-requires
+triples-triple-items-requires c = shaped_end _ c.requires.formed
 
-pub loop-kind-init : goal.loop-kind-init
-loop-kind-init c =
+pub loop-triple-init : goal.loop-triple-init
+loop-triple-init c =
     let w = c.args.words.now in
-    let e = c.triples-kind-items.ensures in
+    let e = c.triples-triple-items.ensures in
     record {
       at = contents_end (body_count w);
       stand = rw e (shaped-gapless w c.requires.formed);
@@ -46,27 +46,28 @@ loop-kind-init c =
 
 pub body_words-body-requires : goal.body_words-body-requires
 body_words-body-requires c =
-    let l = c.loop-kind in
-    let ts = c.triples-kind-items.result.now in
+    let l = c.loop-triple in
+    let ts = c.triples-triple-items.result.now in
     let at = l.invariant.at in
     let end = length c.args.words.now in
-    omega (arith, offset ts l.kind-index at end (omega arith) l.invariant.stand, ends ts l.kind-index at end (omega arith) l.invariant.stand)
+    let e = c.from-entry.ensures in
+    omega (arith, ap (λ (b : Body). b.offset) e, ap (λ (b : Body). b.size) e, offset ts l.triple-index at end (omega arith) l.invariant.stand, ends ts l.triple-index at end (omega arith) l.invariant.stand)
 
 pub run_body-held-requires : goal.run_body-held-requires
 run_body-held-requires c =
-    let l = c.loop-kind in
-    let ts = c.triples-kind-items.result.now in
+    let l = c.loop-triple in
+    let ts = c.triples-triple-items.result.now in
     let w = c.args.words.now in
-    let b = here ts l.kind-index (omega arith) in
+    let b = here ts l.triple-index (omega arith) in
     let few = words_in_few w b in
-    let fits = ends ts l.kind-index l.invariant.at (length w) (omega arith) l.invariant.stand in
-    rw (c.body_words-body.ensures b.kind) (omega (arith, few, fits, l.invariant.room))
+    let fits = ends ts l.triple-index l.invariant.at (length w) (omega arith) l.invariant.stand in
+    rw (c.body_words-body.ensures ∙ ap (words_in w) c.from-entry.ensures) (omega (arith, few, fits, l.invariant.room))
 
-pub loop-kind-preserved : goal.loop-kind-preserved
-loop-kind-preserved c =
-    let l = c.loop-kind in
-    let ts = c.triples-kind-items.result.now in
-    let i = l.kind-index in
+pub loop-triple-preserved : goal.loop-triple-preserved
+loop-triple-preserved c =
+    let l = c.loop-triple in
+    let ts = c.triples-triple-items.result.now in
+    let i = l.triple-index in
     let at = l.invariant.at in
     let w = c.args.words.now in
     let h : i < length ts = omega arith in
@@ -74,7 +75,9 @@ loop-kind-preserved c =
     let r = c.run_body-held in
     let few = words_in_few w b in
     let fits = ends ts i at (length w) h l.invariant.stand in
-    let words = c.body_words-body.ensures b.kind in
+    let words = c.body_words-body.ensures ∙ ap (words_in w) c.from-entry.ensures in
+    let kind : c.from-entry.result.kind ≡ b.kind = ap (λ (b : Body). b.kind) c.from-entry.ensures in
+    let text = rw kind at r.ensures.text in
     let size = ap length words in
     let s = lent_state l.file l.tables l.block l.copied l.held in
     record {
@@ -82,16 +85,16 @@ loop-kind-preserved c =
       stand = rest ts i at (length w) h l.invariant.stand;
       same_reference = r.ensures.text.same_reference ∙ l.invariant.same_reference;
       room = omega (arith, few, fits, size, r.ensures.room, added_room _ _ _ r.ensures.text, l.invariant.room);
-      calls = calls_turn w b (bodies (drop (i + 1) ts)) _ words s _ r.ensures.state _ (rw (bodies_more ts i h) at l.invariant.calls);
-      due = prints_turn w b (bodies (drop (i + 1) ts)) _ words s _ r.ensures.state _ _ _ r.ensures.text (rw (bodies_more ts i h) at l.invariant.due);
+      calls = calls_turn w b (bodies (drop (i + 1) ts)) _ words s _ (rw kind at r.ensures.state) _ (rw (bodies_more ts i h) at l.invariant.calls);
+      due = prints_turn w b (bodies (drop (i + 1) ts)) _ words s _ (rw kind at r.ensures.state) _ _ _ text (rw (bodies_more ts i h) at l.invariant.due);
     }
 
 pub returns : goal.returns
 unfolding puts copy_prints calls_of run
 returns c =
-    let l = c.loop-kind in
-    let ts = c.triples-kind-items.result.now in
+    let l = c.loop-triple in
+    let ts = c.triples-triple-items.result.now in
     record {
-      state = rw (bodies_none ts l.kind-index (omega arith)) at l.invariant.calls;
-      text = record { same_reference = l.invariant.same_reference; after = rw (bodies_none ts l.kind-index (omega arith)) at l.invariant.due };
+      state = rw (bodies_none ts l.triple-index (omega arith)) at l.invariant.calls;
+      text = record { same_reference = l.invariant.same_reference; after = rw (bodies_none ts l.triple-index (omega arith)) at l.invariant.due };
     }

@@ -3,5 +3,5 @@ use Rattle.capture_check.specs.Contents.{registers_right}
 use Rattle.capture_check.specs.Steps.{bodies}
 use Rattle.capture_check.proofs.registers.registers_right.Given as goal
 
-abbrev pub invariant-loop-kind : goal.invariant-loop-kind
-invariant-loop-kind l = registers_right l.words (bodies (drop l.kind-index l.contents)) ≡ registers_right l.words (bodies l.contents)
+abbrev pub invariant-loop-triple : goal.invariant-loop-triple
+invariant-loop-triple l = registers_right l.words (bodies (drop l.triple-index l.contents)) ≡ registers_right l.words (bodies l.contents)
