@@ -16,7 +16,7 @@ use Rattle.block.specs.FormedLaws.{Shaped, formed_parts, formed_made}
 use Rattle.block.specs.SmallLaws.{passes}
 use Rattle.block.proofs.PackedLaws.{not_all_zero}
 use Rattle.block.specs.WordLaws.{number_formed, small_number, small_formed}
-use Rattle.block_check.specs.Steps.{head_formed, lights_formed, floats_form}
+use Rattle.block_check.specs.Steps.{head_formed, lights_formed}
 use Rattle.block_check.proofs.Shape.{lights_of_shape, head_of_shape, unused_of_shape, shape_made}
 
 -- what must hold and doesn't
@@ -51,15 +51,14 @@ module _ (w : ℕ → ℕ) where
 
   -- some light
 
-  some_word : (w 1 ≡ 0 → ⊥) → all_zero w ≡ false
-  some_word n = not_all_zero w 1 (omega arith) n
+  some_word : 0 < w 1 → all_zero w ≡ false
+  some_word n = not_all_zero w 1 (omega arith) (λ e. omega arith)
 
   pub many : 8 < w 1 → form_of w ≡ NotWellFormed
   many h =
-      let n : w 1 ≡ 0 → ⊥ = λ e. omega arith in
-      no_form (some_word n) (fails (well_formed w) (leb (w 1) 8) (λ f. (formed_parts w f).shape.few) (lt-leb (w 1) 8 h))
+      no_form (some_word (omega arith)) (fails (well_formed w) (leb (w 1) 8) (λ f. (formed_parts w f).shape.few) (lt-leb (w 1) 8 h))
 
-  module _ (some : w 1 ≡ 0 → ⊥) (few : w 1 ≤ 8) where
+  module _ (some : 0 < w 1) (few : w 1 ≤ 8) where
     lit : 328 - slot_at (slot_of (w 1)) ≡ 36 * (8 - w 1)
     lit = omega arith
 
@@ -111,12 +110,12 @@ module _ (w : ℕ → ℕ) where
           no_form (some_word some)
           (fails (well_formed w) (every (4 + 36 * w 1) (λ k. float_formed (w (36 + k)))) (λ f. widened float_formed (every_of 328 (λ i. float_formed (w i)) (formed_parts w f).floats)) z)
 
-      pub by_floats : floats_form w (w 1) ≡ form_of w
-      unfolding floats_form
-      by_floats = go (every (4 + 36 * w 1) (λ k. is_number (w (36 + k)))) (every (4 + 36 * w 1) (λ k. float_formed (w (36 + k)))) refl refl
-        where
-          go : (a b : Bool) → every (4 + 36 * w 1) (λ k. is_number (w (36 + k))) ≡ a → every (4 + 36 * w 1) (λ k. float_formed (w (36 + k))) ≡ b
-              → cond a NanFree (cond b WithNan NotWellFormed) ≡ form_of w
-          go true b p q = sym (no_nan p)
-          go false true p q = sym (a_nan p q)
-          go false false p q = sym (odd_nan q)
+      floats : (a b : Bool) → a ≡ every (4 + 36 * w 1) (λ k. is_number (w (36 + k))) → b ≡ every (4 + 36 * w 1) (λ k. float_formed (w (36 + k))) → cond a NanFree (cond b WithNan NotWellFormed) ≡ form_of w
+      floats true b p q = sym (no_nan (sym p))
+      floats false true p q = sym (a_nan (sym p) (sym q))
+      floats false false p q = sym (odd_nan (sym q))
+
+-- past the tests of the shape: a and b are whether the floats are numbers, and formed; the code reads the count n once
+pub by_floats : (w : ℕ → ℕ) (n : ℕ) → (n ≡ w 1) × (0 < n) × (n ≤ 8) → zeros w (slot_at (slot_of n)) (36 * (8 - n)) ≡ true → head_formed w ≡ true → lights_formed w n ≡ true
+    → (a b : Bool) → a ≡ every (4 + 36 * n) (λ k. is_number (w (36 + k))) → b ≡ every (4 + 36 * n) (λ k. float_formed (w (36 + k))) → cond a NanFree (cond b WithNan NotWellFormed) ≡ form_of w
+by_floats w n (told, some, few) unused head lights a b p q = floats w (rw told at some) (rw told at few) (rw told at unused) head (rw told at lights) a b (rw told at p) (rw told at q)

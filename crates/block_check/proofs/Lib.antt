@@ -1,3 +1,4 @@
+mod Parts
 mod Shape
 mod Forms
-mod FormByTests
+mod FormByLength

@@ -1,13 +1,11 @@
 -- What the code computes step by step, part by part and in the code's order; nobody has to trust it: the contract of `form` ties it to Block's
 -- `well_formed`, by way of block's `block_form`. Definitions only.
-use Rattle.std.specs.Prelude.{ℕ, ◌+◌, ◌*◌, Bool, not, ◌&&◌, ◌||◌, cond, ltb, eqb}
+use Rattle.std.specs.Prelude.{ℕ, ◌+◌, Bool, not, ◌&&◌, ◌||◌, ltb, eqb}
 use Rattle.lighting.specs.Forms.{every}
 use Rattle.lighting.specs.Lighting.{slot_of}
 use Rattle.block_check.specs.declared.lanes.Lanes.{Lanes}
 use Rattle.block_check.specs.declared.lights.Found.{Found}
-use Rattle.block.specs.declared.BlockForm.{BlockForm}
-use Rattle.block.specs.declared.BlockForm.TheVariants.{NotWellFormed, NanFree, WithNan}
-use Rattle.block.specs.Block.{from, lookup_at, slot_at, zeros, bit_at, bump_formed, shadow_formed, scale_formed, is_number, float_formed}
+use Rattle.block.specs.Block.{from, lookup_at, slot_at, zeros, bit_at, bump_formed, shadow_formed, scale_formed, is_number}
 
 -- ---- the head
 
@@ -84,10 +82,3 @@ found_formed found = eqb found.zeros 0 && ltb found.flags 128 && ltb found.numbe
 -- none of n words from i on is a NaN's pattern
 abbrev pub numbers : (ℕ → ℕ) → ℕ → ℕ → Bool
 numbers w i n = every n (λ k. is_number (w (i + k)))
-
--- the form of a block of n lights that has the right head, slots and unused slots: floats are only from the global ambient to the end of the
--- lit slots
-unfoldable pub floats_form : (ℕ → ℕ) → ℕ → BlockForm
-floats_form w n =
-    cond (numbers w 36 (4 + 36 * n)) NanFree
-    (cond (every (4 + 36 * n) (λ k. float_formed (w (36 + k)))) WithNan NotWellFormed)

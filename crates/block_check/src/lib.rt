@@ -1,6 +1,6 @@
 // What a block's words are: the check that runs at each call of the block shader. It goes over the words once, part by part, with no branch
-// for a word. The words come as words or as bytes. `lanes` are four words side by side, `zeros` has the words that must be zero, `options` and `head`
-// the first 40, `floats` the NaNs, `lights` the lit slots.
+// for a word. The words come as words or as bytes. `word_tests` tests words, `lanes` are four of them side by side, `slots` the slots, `zeros` the words that must be zero,
+// `options` and `head` the first 40, `floats` the NaNs, `lights` the lit slots.
 #![tactic(auto)]
 
 mod floats;
@@ -8,44 +8,55 @@ mod head;
 mod lanes;
 mod lights;
 mod options;
+mod slots;
+mod word_tests;
 mod zeros;
 
-ghost use Rattle.std.specs.Prelude.{◌≡◌, ◌≤◌, length, map};
+ghost use Rattle.std.specs.Prelude.{◌≡◌, ◌<◌, ◌≤◌, map};
 ghost use Rattle.block.specs.Block.{words};
 ghost use Rattle.block.specs.Steps.{form_of, block_form};
 
-use crate::floats::floats_form;
+use crate::floats::floats_formed;
 use crate::head::head_formed;
 use crate::lights::lights_found;
 use crate::zeros::{are_zero, unused_are_zero};
 use block::BlockForm;
 use sources::words::{Word, value_at};
 
-// A block of another length is not well formed.
+// A block of another length is not well formed. The length is asked before the words are taken as an array: only where they are there is it known that 328 of any size fit.
+#[tactic(auto, using(crate::proofs::FormByLength::of_length, crate::proofs::FormByLength::of_another_length))]
 pub fn form<W: Word>(block: &[W]) -> BlockForm
     ensures { result ≡ block_form (map W.value block.now) }
 {
     if block.len() != 328 {
         return BlockForm::NotWellFormed;
     }
-    if value_at(block, 1) == 0 {
-        if are_zero(block, 0, 328) {
+    whole_form(block.as_array::<328>().unwrap())
+}
+
+#[tactic(auto, unfolding(block::specs::Block::all_zero), using(crate::proofs::Forms::all_zero_lem, crate::proofs::Forms::not_zero, crate::proofs::Forms::many))]
+fn whole_form<W: Word>(block: &[W; 328]) -> BlockForm
+    ensures { result ≡ form_of (words (map W.value block.now)) }
+{
+    let count = value_at(block, 1) as usize;
+    if count == 0 {
+        if are_zero(block) {
             return BlockForm::Off;
         }
         return BlockForm::NotWellFormed;
     }
-    if 8 < value_at(block, 1) {
+    if 8 < count {
         return BlockForm::NotWellFormed;
     }
-    lit_form(block)
+    lit_form(block, count)
 }
 
-// The form of a block of 328 words with a count of 1 to 8.
-fn lit_form<W: Word>(block: &[W]) -> BlockForm
-    requires { (length block.now ≡ 328) × (words (map W.value block.now) 1 ≡ 0 → ⊥) × (words (map W.value block.now) 1 ≤ 8) }
+// The form of a block with a count of 1 to 8. Block and count stay two parameters: of an array behind a struct's field it is not known that 328 words of any size fit.
+#[tactic(auto, using(crate::proofs::Forms::unused_words, crate::proofs::Forms::bad_head, crate::proofs::Forms::bad_lights))]
+fn lit_form<W: Word>(block: &[W; 328], count: usize) -> BlockForm
+    requires { (count ≡ words (map W.value block.now) 1) × (0 < count) × (count ≤ 8) }
     ensures { result ≡ form_of (words (map W.value block.now)) }
 {
-    let count = value_at(block, 1) as usize;
     if !unused_are_zero(block, count) {
         return BlockForm::NotWellFormed;
     }
@@ -53,8 +64,14 @@ fn lit_form<W: Word>(block: &[W]) -> BlockForm
         return BlockForm::NotWellFormed;
     }
     let found = lights_found(block, count);
-    if !lights::are_formed(found) {
+    if !found.are_formed() {
         return BlockForm::NotWellFormed;
     }
-    floats_form(block, count, lanes::are_clear(found.nans))
+    if found.nans.are_clear() {
+        return BlockForm::NanFree;
+    }
+    if floats_formed(block, count) {
+        return BlockForm::WithNan;
+    }
+    BlockForm::NotWellFormed
 }

@@ -1,10 +1,8 @@
-use Rattle.std.proofs.Common.{map}
-use Prim.Native.Nat.{◌*◌, ◌≤◌, ◌-◌}
-use mathlib.Core.Path.{◌≡◌}
-use Rattle.lighting.specs.Lighting.{slot_of}
+use Rattle.std.proofs.Common.{◌≡◌, ◌*◌, map}
 use Rattle.block.specs.Block.{words, slot_at, zeros}
+use Rattle.lighting.specs.Lighting.{slot_of}
 use Rattle.block_check.specs.Steps.{clear}
 use Rattle.block_check.proofs.zeros.unused_are_zero.Given as goal
 
 abbrev pub invariant-loop-slot : goal.invariant-loop-slot
-invariant-loop-slot g l = (l.count ≤ l.slot) × (l.slot ≤ 8) × (clear l.lanes ≡ zeros (words (map g.W.Word.value l.block)) (slot_at (slot_of l.count)) (36 * (l.slot - l.count)))
+invariant-loop-slot g l = clear l.lanes ≡ zeros (words (map g.W.Word.value l.block)) (slot_at (slot_of l.count)) (36 * l.slot-index)
