@@ -1,8 +1,9 @@
 -- For tests alone: calls on the structs, composed so that words go in and words come out. Definitions only.
-use Rattle.std.specs.Prelude.{ℕ, zero, suc, List, length, Option, None, Some}
+use Rattle.std.specs.Prelude.{ℕ, zero, suc, List, length, Option, None, Some, Result}
 use Rattle.refusals.specs.Refusals.{fragment_refusal}
+use Rattle.refusals.specs.declared.Refusal.{Refusal}
 use Rattle.lighting.specs.declared.Lighting.{Lighting}
-use Rattle.decoding.specs.Read.{file_read}
+use Rattle.decoding.specs.Read.{file_read, file_read_of}
 use Rattle.block.specs.Block.{Packing, packing, packs, block_read}
 use Rattle.unit.specs.declared.Cache.{Cache}
 use Rattle.unit.specs.Unit.{Cached, fresh_cache, cached_read}
@@ -25,6 +26,10 @@ shades_if (suc k) d t q a = shaded (suc k) a
 unfoldable pub shades_of : ℕ → ℕ → Option Lighting → List ℕ → List ℕ → List ℕ → Shaded
 shades_of zero k d t q a = shades_if k d t q a
 shades_of (suc n) k d t q a = shaded (suc n) a
+
+-- by what a read answered: tables, fragment, answer
+abbrev pub shades_read : Result (Option Lighting) Refusal → List ℕ → List ℕ → List ℕ → Shaded
+shades_read r t q a = shades_of (fragment_refusal (length q)) (file_read_of r).number (file_read_of r).lighting t q a
 
 -- `read` of a file, then `shade`: file, tables, fragment, answer
 abbrev pub shade_file : List ℕ → List ℕ → List ℕ → List ℕ → Shaded

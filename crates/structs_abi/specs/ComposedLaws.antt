@@ -1,7 +1,6 @@
 -- For tests alone: a composed call goes on where the read answers, with what the read gives, and else gives the refusal's number. Assumes nothing.
 use Rattle.std.specs.Prelude.{ℕ, zero, suc, ◌≡◌, List, length, Option, Result, Ok, Err}
-use Rattle.std.proofs.Common.{refl, sym, ap, ◌∙◌}
-use Rattle.std.specs.Result.{result_unwrap_or}
+use Rattle.std.proofs.Common.{refl, sym, ap, ◌∙◌, ne_eqb}
 use Rattle.refusals.specs.declared.Refusal.{Refusal}
 use Rattle.refusals.specs.Refusals.{number_of, fragment_refusal}
 use Rattle.tables.specs.RefusalLaws.{refusal_not_zero}
@@ -11,31 +10,35 @@ use Rattle.block.specs.Block.{packing, BlockAnswer, block_read, answer_of}
 use Rattle.unit.specs.declared.Cache.{Cache}
 use Rattle.unit.specs.Unit.{Cached, cached, fresh_cache, cached_read}
 use Rattle.shading.specs.Shade.{shaded}
-use Rattle.structs_abi.specs.Composed.{shades_reading, shades_if, shades_of, shade_file, shade_reading, packs_if, cached_reads}
+use Rattle.structs_abi.specs.Composed.{shades_reading, shades_if, shades_of, shades_read, shade_file, shade_reading, packs_if, cached_reads}
 
-module _ (t q a : List ℕ) (n : length q ≡ 23) where
-  goes_on : (d : Option Lighting) → shades_reading d t q a ≡ shades_of (fragment_refusal (length q)) 0 d t q a
-  unfolding shades_of shades_if fragment_refusal
-  goes_on d = rw n refl
+module _ (t q a : List ℕ) where
+  -- a fragment of another length
+  pub short : (r : Result (Option Lighting) Refusal) → (length q ≡ 23 → ⊥) → shaded 9 a ≡ shades_read r t q a
+  unfolding shades_of fragment_refusal
+  short r n = rw (ne_eqb (length q) 23 n) refl
 
-  gives_number : (m : ℕ) (d : Option Lighting) → (m ≡ 0 → ⊥) → shaded m a ≡ shades_of (fragment_refusal (length q)) m d t q a
+  -- else a read that is done, and one that is refused
+  pub done : (d : Option Lighting) → length q ≡ 23 → shades_reading d t q a ≡ shades_read (Ok d) t q a
   unfolding shades_of shades_if fragment_refusal
-  gives_number zero d h = absurd (h refl)
-  gives_number (suc m) d h = rw n refl
+  done d n = rw n refl
+
+  numbered : (m : ℕ) (d : Option Lighting) → length q ≡ 23 → (m ≡ 0 → ⊥) → shaded m a ≡ shades_of (fragment_refusal (length q)) m d t q a
+  unfolding shades_of shades_if fragment_refusal
+  numbered zero d n h = absurd (h refl)
+  numbered (suc m) d n h = rw n refl
+
+  pub refused : (k : Refusal) → length q ≡ 23 → shaded (number_of k) a ≡ shades_read (Err k) t q a
+  refused k n = numbered (number_of k) _ n (refusal_not_zero k)
 
   -- `read` of a file
-  pub done : (f : List ℕ) (d : Option Lighting) → file_read_of (Ok d) ≡ file_read f → shades_reading d t q a ≡ shade_file f t q a
-  done f d e = goes_on d ∙ ap (λ (x : FileRead). shades_of (fragment_refusal (length q)) x.number x.lighting t q a) e
-
-  pub refused : (f : List ℕ) (k : Refusal) → file_read_of (Err k) ≡ file_read f → shaded (number_of k) a ≡ shade_file f t q a
-  refused f k e = gives_number (number_of k) _ (refusal_not_zero k) ∙ ap (λ (x : FileRead). shades_of (fragment_refusal (length q)) x.number x.lighting t q a) e
+  pub of_file : (r : Result (Option Lighting) Refusal) (f : List ℕ) → file_read_of r ≡ file_read f → shades_read r t q a ≡ shade_file f t q a
+  of_file r f e = ap (λ (x : FileRead). shades_of (fragment_refusal (length q)) x.number x.lighting t q a) e
 
   -- `read_block` of a block
-  pub read_done : (b : List ℕ) (d : Option Lighting) → answer_of (Ok d) ≡ block_read b → shades_reading d t q a ≡ shade_reading b t q a
-  read_done b d e = goes_on d ∙ ap (λ (x : BlockAnswer). shades_of (fragment_refusal (length q)) x.number x.reading t q a) e
-
-  pub read_refused : (b : List ℕ) (k : Refusal) → answer_of (Err k) ≡ block_read b → shaded (number_of k) a ≡ shade_reading b t q a
-  read_refused b k e = gives_number (number_of k) _ (refusal_not_zero k) ∙ ap (λ (x : BlockAnswer). shades_of (fragment_refusal (length q)) x.number x.reading t q a) e
+  pub of_block : (r : Result (Option Lighting) Refusal) (b : List ℕ) → answer_of r ≡ block_read b → shades_read r t q a ≡ shade_reading b t q a
+  of_block (Ok d) b e = ap (λ (x : BlockAnswer). shades_of (fragment_refusal (length q)) x.number x.reading t q a) e
+  of_block (Err k) b e = ap (λ (x : BlockAnswer). shades_of (fragment_refusal (length q)) x.number x.reading t q a) e
 
 refused_number : (b : List ℕ) (m : ℕ) (l : Option Lighting) → (m ≡ 0 → ⊥) → packing m b ≡ packs_if m l b
 unfolding packs_if

@@ -7,7 +7,7 @@ ghost use Rattle.shading.specs.Shade.{shaded};
 ghost use Rattle.block.specs.Block.{packing as packing_as};
 ghost use Rattle.block_shading.specs.BlockShading.{block_shading};
 ghost use Rattle.unit.specs.Unit.{fresh_cache, handed};
-ghost use Rattle.structs_abi.specs.Composed.{shades_reading, packs_if, shade_file, shade_reading, cached_reads};
+ghost use Rattle.structs_abi.specs.Composed.{shades_reading, shades_read, packs_if, shade_file, shade_reading, cached_reads};
 ghost use Rattle.structs_abi.specs.HandOvers.{copied as copied_as, copy_of, hand_overs};
 
 use block_shading::fragments;
@@ -37,7 +37,27 @@ fn shade_reading(
     }
 }
 
-// `read` of a file, then `shade`. Returns 9 for a fragment of other than 23 words, then each call's own number, 100 where the lighting is off.
+// A fragment shaded by what a read answered. Returns 9 for a fragment of other than 23 words, then each call's own number, 100 where the lighting is off.
+#[tactic(auto, using(crate::specs::ComposedLaws::short, crate::specs::ComposedLaws::done, crate::specs::ComposedLaws::refused))]
+fn shade_read(
+    read: Result<Option<Lighting>, Refusal>,
+    tables: &[u32],
+    fragment: &[u32],
+    answer: &mut [u32],
+) -> u32
+    ensures { shaded result answer.new ≡ shades_read read tables.now fragment.now answer.old }
+{
+    if fragment.len() != 23 {
+        return u32::from(Refusal::WrongFragment);
+    }
+    match read {
+        Ok(reading) => shade_reading(reading, tables, fragment, answer),
+        Err(refusal) => u32::from(refusal),
+    }
+}
+
+// `read` of a file, then `shade`.
+#[tactic(auto, using(crate::specs::ComposedLaws::of_file))]
 #[unsafe(no_mangle)]
 pub extern "C" fn structs_shade_file(
     file: &[u32],
@@ -47,16 +67,11 @@ pub extern "C" fn structs_shade_file(
 ) -> u32
     ensures { shaded result answer.new ≡ shade_file file.now tables.now fragment.now answer.old }
 {
-    if fragment.len() != 23 {
-        return u32::from(Refusal::WrongFragment);
-    }
-    match decoding::read(file) {
-        Ok(decoded) => shade_reading(decoded, tables, fragment, answer),
-        Err(refusal) => u32::from(refusal),
-    }
+    shade_read(decoding::read(file), tables, fragment, answer)
 }
 
-// `read_block` of a block, then `shade`, with the same numbers.
+// `read_block` of a block, then `shade`.
+#[tactic(auto, using(crate::specs::ComposedLaws::of_block))]
 #[unsafe(no_mangle)]
 pub extern "C" fn structs_shade_reading(
     block: &[u32],
@@ -66,13 +81,7 @@ pub extern "C" fn structs_shade_reading(
 ) -> u32
     ensures { shaded result answer.new ≡ shade_reading block.now tables.now fragment.now answer.old }
 {
-    if fragment.len() != 23 {
-        return u32::from(Refusal::WrongFragment);
-    }
-    match block_reading::read_block(block) {
-        Ok(reading) => shade_reading(reading, tables, fragment, answer),
-        Err(refusal) => u32::from(refusal),
-    }
+    shade_read(block_reading::read_block(block), tables, fragment, answer)
 }
 
 // `shade_block` on words.
@@ -88,7 +97,8 @@ pub extern "C" fn structs_shade_block(
     refusals::switch_number(block_shading::shade_block(block, tables, fragment, answer))
 }
 
-// The block of a reading, or 100.
+// The block of a reading, or 100. Not `unit::taking::pack_reading`, which is done where a lighting is off, with a block of zeros: this leaves the block.
+#[tactic(auto, unfolding(crate::specs::Composed::packs_if))]
 fn pack_reading(reading: Option<Lighting>, block: &mut [u32]) -> u32
     ensures { packing_as result block.new ≡ packs_if 0 reading block.old }
 {
@@ -99,6 +109,7 @@ fn pack_reading(reading: Option<Lighting>, block: &mut [u32]) -> u32
 }
 
 // `cached_read` of one file and then of the other, from an empty cache, and `pack` of the second's lighting, or 100.
+#[tactic(auto, using(crate::specs::ComposedLaws::packs_done))]
 #[unsafe(no_mangle)]
 pub extern "C" fn structs_cached_reads(file: &[u32], other: &[u32], block: &mut [u32]) -> u32
     ensures { packing_as result block.new ≡ cached_reads file.now other.now block.old }
