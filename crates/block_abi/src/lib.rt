@@ -14,6 +14,7 @@ use refusals::{Refusal, Switch};
 const WITH_NAN: u32 = 1;
 
 // The block of a register file's lighting.
+#[tactic(auto, using(crate::proofs::PackFileLaws::read_off, crate::proofs::PackFileLaws::read_on, crate::proofs::PackFileLaws::read_refused))]
 pub fn block_pack(file: &[u32], words: &mut [u32]) -> u32
     ensures { packing_as result words.new ≡ pack_file file.now words.old }
 {
