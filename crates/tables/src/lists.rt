@@ -6,6 +6,7 @@ use crate::WrittenEach;
 use crate::registers::write;
 
 // The pairs of register and value one after another, up to the first that is refused: those before it are made. A word that is left over at the end is none.
+#[tactic(auto, using(crate::proofs::ListLaws::none_left, crate::proofs::ListLaws::made, crate::proofs::ListLaws::pair_at))]
 pub fn write_each(
     file: &mut [u32],
     tables: &mut [u32],
