@@ -24,6 +24,7 @@ fn guess(z: u32) -> u64
 
 // The whole number nearest to the root of w, looked for from e on. The loops look for a number and count no index: `find` over a range would
 // need an end beyond which none is looked for, and gives an `Option` of what is always there.
+#[tactic(auto, using(crate::proofs::Squares::sq_mono, crate::proofs::Squares::small_root, crate::proofs::Squares::square_pos, crate::proofs::Squares::step_down))]
 fn stepped(w: u64, e: u64) -> u64
     requires { (0 < w) × (w < 2 ^ 48) × (e < 2 ^ 25) }
     ensures { Near w result }
@@ -62,6 +63,7 @@ fn wide(z: u32) -> u64
 }
 
 // The pattern of the root of what n carries.
+#[tactic(auto, using(crate::proofs::Rounded::near_hi))]
 fn rooted(n: u32) -> u32
     requires { n < 380 * 2 ^ 23 }
     ensures { Rooted n result }

@@ -1,5 +1,4 @@
 -- `root::guess` meets its contract: nothing wraps and the result is small, since each product is that of its factors' bounds at most, whatever the table holds.
---
 use Prim.Native.Nat.{◌-◌, ◌*◌, ◌/◌, ◌%◌, ◌≤◌}
 use native.Mathlib.Nat.{mul-le-mul}
 use native.Mathlib.Omega.{arith}

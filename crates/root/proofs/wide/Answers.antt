@@ -1,5 +1,4 @@
 -- `root::wide` meets its contract: `Place` has the fact for each of its two branches.
---
 use mathlib.Core.Path.{sym, subst}
 use Prim.Native.Nat.{ℕ, ◌*◌}
 use native.Mathlib.Omega.{arith}
