@@ -26,6 +26,7 @@ pub struct Held {
 }
 
 // The hand-over before a kind 2 body's fragments; what is held afterwards. Refused, it stays.
+#[tactic(auto, unfolding(lists::specs::Calls::step))]
 fn hand_over(
     file: &[u32],
     tables: &[u32],

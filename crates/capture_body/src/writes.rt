@@ -9,6 +9,7 @@ ghost use Rattle.lists.specs.Ours.{ours};
 ghost use Rattle.capture_calls.specs.Capture.{pair_calls, restore_call};
 
 // One register write; the unit's generation afterwards. Whatever cache and copy stand beside the unit's slices stay.
+#[tactic(auto, unfolding(lists::specs::Calls::step), using(crate::proofs::writes::Answered::after_write))]
 fn write_one(
     file: &mut [u32],
     tables: &mut [u32],
@@ -22,6 +23,7 @@ fn write_one(
 }
 
 // A kind 1 body. Not `tables::lists::write_each`, which stops at a write that is refused: the calls of a body go on after one.
+#[tactic(auto, using(crate::proofs::writes::NextPair::pairs_none))]
 pub(crate) fn write_pairs(
     file: &mut [u32],
     tables: &mut [u32],
@@ -38,6 +40,7 @@ pub(crate) fn write_pairs(
 }
 
 // A kind 3 body.
+#[tactic(auto, unfolding(lists::specs::Calls::step), using(crate::proofs::writes::Answered::after_restore))]
 pub(crate) fn restore_body(tables: &mut [u32], generation: u64, saved: &[u32]) -> u64
     ensures { (f : List ℕ) (c : Cache) (k : CopyState) → state (unit_state f tables.new result c) k ≡ step ours (state (unit_state f tables.old generation c) k) (restore_call saved.now) }
 {
