@@ -11,6 +11,7 @@ use std::io;
 use std::rt::Env;
 
 // The width that decimal digits write. A number above 1000 becomes 1000, which is as much too wide.
+#[tactic(auto, using(crate::proofs::Digits::none, crate::proofs::Digits::some, crate::proofs::Digits::at_end, crate::proofs::Digits::no_digit, crate::proofs::Digits::digit))]
 fn width_of(text: &[u8]) -> Option<u32>
     ensures { result ≡ width_of text.now }
 {

@@ -37,7 +37,7 @@ fn with_one(mut totals: Totals, class: Class) -> Totals
 }
 
 // The census, pattern by pattern, each decoded as the unit decodes it.
-#[tactic(auto, unfolding(crate::specs::Census::census_of, crate::specs::Census::totals_below))]
+#[tactic(auto, unfolding(crate::specs::Census::census_of, crate::specs::Census::totals_below), using(crate::proofs::counting::Turn::next, crate::proofs::counting::Turn::room, crate::proofs::counting::Turn::widths, crate::proofs::counting::Turn::few, crate::specs::CensusLaws::counts_all))]
 pub fn count(mantissa: u32, exponent: u32) -> Totals
     ensures { result ≡ census_of mantissa exponent }
 {
