@@ -1,6 +1,6 @@
 // What a block's words are: the check that runs at each call of the block shader. It goes over the words once, part by part, with no branch
-// for a word. The words come as words or as bytes. `word_tests` tests words, `lanes` are four of them side by side, `slots` the slots, `zeros` the words that must be zero,
-// `options` and `head` the first 40, `floats` the NaNs, `lights` the lit slots.
+// for a word. The words come as words or as bytes. `word_tests` tests words, `lanes` are four of them side by side, `slots` the slots, `zeros` has the words that must be
+// zero, `options` and `head` the first 40, `floats` the NaNs, `lights` the lit slots.
 #![tactic(auto)]
 
 mod floats;
@@ -23,7 +23,7 @@ use crate::zeros::{are_zero, unused_are_zero};
 use block::BlockForm;
 use sources::words::{Word, value_at};
 
-// A block of another length is not well formed. The length is asked before the words are taken as an array: only where they are there is it known that 328 of any size fit.
+// A block of another length is not well formed. The length is asked before the words are taken as an array: only where 328 are there is it known that as many fit.
 #[tactic(auto, using(crate::proofs::FormByLength::of_length, crate::proofs::FormByLength::of_another_length))]
 pub fn form<W: Word>(block: &[W]) -> BlockForm
     ensures { result ≡ block_form (map W.value block.now) }
@@ -51,7 +51,7 @@ fn whole_form<W: Word>(block: &[W; 328]) -> BlockForm
     lit_form(block, count)
 }
 
-// The form of a block with a count of 1 to 8. Block and count stay two parameters: of an array behind a struct's field it is not known that 328 words of any size fit.
+// The form of a block with a count of 1 to 8. Block and count stay two parameters: of an array behind a struct's field it is not known that 328 words fit.
 #[tactic(auto, using(crate::proofs::Forms::unused_words, crate::proofs::Forms::bad_head, crate::proofs::Forms::bad_lights))]
 fn lit_form<W: Word>(block: &[W; 328], count: usize) -> BlockForm
     requires { (count ≡ words (map W.value block.now) 1) × (0 < count) × (count ≤ 8) }
