@@ -2,11 +2,4 @@ pub mod Registers
 pub mod Read
 pub mod Claims
 pub mod Steps
-pub mod ReadLaws
-pub mod LightLaws
-pub mod LimitLaws
-pub mod SameLaws
-pub mod KeptLaws
-pub mod DecodeLaws
 pub mod ComparingLaws
-pub mod FileLaws

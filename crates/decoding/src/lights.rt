@@ -68,7 +68,7 @@ fn light(file: &RegisterFile, number: LightNumber) -> Light
 }
 
 // The light in a slot, blank beyond the count.
-#[tactic(auto, unfolding(crate::specs::Steps::slot_light), using(crate::specs::LightLaws::number_lt))]
+#[tactic(auto, unfolding(crate::specs::Steps::slot_light), using(crate::proofs::LightLaws::number_lt))]
 fn slot_light(file: &RegisterFile, slot: Slot) -> Light
     requires { slot.0 < 8 }
     ensures { result ≡ slot_light file.now slot }

@@ -9,8 +9,8 @@ use Rattle.std.proofs.Math.Dec.{leb, eqb-suc-zero}
 use Rattle.refusals.specs.Refusals.{file_refusal}
 use Rattle.tables.specs.RefusalLaws.{passed_test}
 use Rattle.decoding.specs.Read.{read, registers_read}
-use Rattle.decoding.specs.DecodeLaws.{read_same}
-use Rattle.decoding.specs.FileLaws.{kept_first}
+use Rattle.decoding.proofs.DecodeLaws.{read_same}
+use Rattle.decoding.proofs.FileLaws.{kept_first}
 use Rattle.unit.specs.declared.Cache.{Cache}
 use Rattle.decoding.specs.ComparingLaws.{same_equal}
 use Rattle.unit.specs.HandOverLaws.{long_file}

@@ -2,7 +2,7 @@
 use Rattle.std.specs.Prelude.{ℕ, ◌≡◌, List, take}
 use Rattle.std.proofs.Common.{refl}
 use Rattle.decoding.specs.Read.{read}
-use Rattle.decoding.specs.FileLaws.{kept_first, read_first}
+use Rattle.decoding.proofs.FileLaws.{kept_first, read_first}
 use Rattle.unit.specs.declared.Cache.{Cache}
 use Rattle.unit.specs.Unit.{current, read_anew}
 use Rattle.unit.specs.CacheWords.{current_words, anew_words, refreshed_words}

@@ -14,13 +14,13 @@ use Rattle.block.specs.Block.{words, all_zero, well_formed, packed, packed_readi
 use Rattle.block.proofs.AcceptedLaws.{accepted_range}
 use Rattle.lighting.specs.Lighting.{in_range}
 use Rattle.lighting.specs.declared.Lighting.{Lighting}
-use Rattle.decoding.specs.DecodeLaws.{read_unlit}
+use Rattle.decoding.proofs.DecodeLaws.{read_unlit}
 use Rattle.block.specs.Steps.{nan_free, form_of, block_form}
 use Rattle.block.specs.FormedLaws.{formed_parts}
 use Rattle.block.proofs.ReadLaws.{all_zero_words}
 use Rattle.block.specs.TestLaws.{never}
 use Rattle.decoding.specs.Read.{read, registers_read}
-use Rattle.decoding.specs.KeptLaws.{kept_whole}
+use Rattle.decoding.proofs.KeptLaws.{kept_whole}
 use Rattle.unit.specs.Unit.{packable, read_number, read_packed, read_packed_if, cached_block, handed, hand_over_refusal}
 use Rattle.unit.specs.Steps.{is_formed}
 use Rattle.tables.specs.RefusalLaws.{refusal_not_zero, else_left, else_right}

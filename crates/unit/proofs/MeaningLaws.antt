@@ -14,7 +14,7 @@ use Rattle.tables.specs.RefusalLaws.{else_left}
 use Rattle.lighting.specs.Lighting.{blank_lighting, bump_unit, shadow_unit, in_range, on}
 use Rattle.lighting.specs.Forms.{every}
 use Rattle.decoding.specs.Read.{read, registers_read, registers_read_count}
-use Rattle.decoding.specs.KeptLaws.{kept_whole}
+use Rattle.decoding.proofs.KeptLaws.{kept_whole}
 use Rattle.block.specs.Block.{words, all_zero, zeros, well_formed, block_reading, accepted, packed_reading}
 use Rattle.block.specs.Claims.{WordsHeld}
 use Rattle.block.proofs.ReadLaws.{read_packs, read_accepted}

@@ -16,9 +16,9 @@ use Rattle.lighting.specs.declared.Lighting.{Lighting}
 use Rattle.lighting.specs.Claims.{LookupFits, LightingFits}
 use Rattle.decoding.specs.Claims.{IsScale, LookupLimits, OptionalLookupLimits, BumpLimits, ShadowLimits, Limits}
 use Rattle.decoding.specs.Read.{read}
-use Rattle.decoding.specs.DecodeLaws.{read_either}
+use Rattle.decoding.proofs.DecodeLaws.{read_either}
 use Rattle.lighting.specs.Lighting.{no_light, light_at, bump_unit, shadow_unit, numbers_fit, in_range}
-use Rattle.decoding.specs.LimitLaws.{scale_each, scale_fits}
+use Rattle.decoding.proofs.LimitLaws.{scale_each, scale_fits}
 use Rattle.block.specs.Block.{packed, words, all_zero, scale_formed, well_formed, block_reading, accepted, packed_reading}
 use Rattle.block.specs.Steps.{lookup_acceptable, optional_lookup_acceptable, acceptable}
 use Rattle.block.specs.Claims.{BlankBeyond}

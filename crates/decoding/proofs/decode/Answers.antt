@@ -2,7 +2,7 @@
 use Rattle.std.proofs.Common.{rules, ℕ, arith, sym, ◌∙◌, ◌≡◌, ◌≤◌, ◌<◌, length}
 use Rattle.std.proofs.lemmas.List.{drop-replicate}
 use lib.Seq.{length-take-le}
-use Rattle.decoding.specs.FileLaws.{read_first, read_padded}
+use Rattle.decoding.proofs.FileLaws.{read_first, read_padded}
 use Rattle.decoding.proofs.decode.Goals as goal
 
 pub returns-in-Some : goal.returns-in-Some

@@ -1,6 +1,6 @@
 -- `decoding::decode_registers` meets its contract: the law's `read` is on where the test says so, and then holds what `lighting` ensures; else it is off.
 use mathlib.Core.Path.{sym, ◌∙◌}
-use Rattle.decoding.specs.DecodeLaws.{read-lit, read_unlit}
+use Rattle.decoding.proofs.DecodeLaws.{read-lit, read_unlit}
 use Rattle.decoding.proofs.decode_registers.Goals as goal
 
 pub returns-then-registers_on : goal.returns-then-registers_on

@@ -1,5 +1,5 @@
 -- `decoding::lit_registers` meets its contract: a reading that is on holds the registers' lighting.
-use Rattle.decoding.specs.DecodeLaws.{read-lit}
+use Rattle.decoding.proofs.DecodeLaws.{read-lit}
 use Rattle.decoding.proofs.lit_registers.Goals as goal
 
 pub returns : goal.returns

@@ -4,7 +4,7 @@ use Rattle.std.proofs.lemmas.Result.{err_from_is_err_and}
 use borrow.Author.Tests.{lt-leb, le-leb}
 use Rattle.refusals.specs.Refusals.{file_refusal}
 use Rattle.decoding.specs.Read.{file_read_if, file_read_of}
-use Rattle.decoding.specs.FileLaws.{read_first}
+use Rattle.decoding.proofs.FileLaws.{read_first}
 use Rattle.decoding.proofs.read.Goals as goal
 
 pub returns-in_err-registers_of : goal.returns-in_err-registers_of

@@ -1,5 +1,5 @@
 -- `decoding::registers_on` meets its contract: the test is that of the steps, which says whether the law's `read` is on.
-use Rattle.decoding.specs.DecodeLaws.{read-on}
+use Rattle.decoding.proofs.DecodeLaws.{read-on}
 use Rattle.decoding.specs.Steps.{lighting_on}
 use Rattle.decoding.proofs.registers_on.Goals as goal
 

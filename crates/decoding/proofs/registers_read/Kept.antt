@@ -10,7 +10,7 @@ use Rattle.std.proofs.lemmas.List.{get_or_at, set_at, take_at, drop_at}
 use Rattle.decoding.specs.Read.{registers_read}
 use Rattle.decoding.specs.Steps.{differences}
 use Rattle.sources.specs.Sources.{same_words}
-use Rattle.decoding.specs.KeptLaws.{kept_whole}
+use Rattle.decoding.proofs.KeptLaws.{kept_whole}
 use Rattle.decoding.specs.ComparingLaws.{same_equal, same_self, differences_none, none_differences}
 
 -- the words k are those of the file f, place by place

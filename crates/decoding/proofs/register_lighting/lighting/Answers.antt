@@ -3,7 +3,7 @@
 use Rattle.fields.specs.Fields.{colour_of}
 use Rattle.decoding.specs.Steps.{four_colours, lights_of, lit_lights, needs_half, needs_view, lighting_of}
 use Rattle.std.proofs.Common.{◌≡◌}
-use Rattle.decoding.specs.LightLaws.{count_high}
+use Rattle.decoding.proofs.LightLaws.{count_high}
 use Rattle.decoding.proofs.register_lighting.lighting.Goals as goal
 
 pub some_light-some-requires : goal.some_light-some-requires

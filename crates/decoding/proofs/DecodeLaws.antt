@@ -7,12 +7,12 @@ use Rattle.std.proofs.Math.Bool.{true, false}
 use Rattle.lighting.specs.Lighting.{off, on}
 use Rattle.lighting.specs.declared.Lighting.{Lighting}
 use Rattle.decoding.specs.Claims.{SameKept, Limits}
-use Rattle.decoding.specs.SameLaws.{count_same, config_same, lights_same}
+use Rattle.decoding.proofs.SameLaws.{count_same, config_same, lights_same}
 use Rattle.decoding.specs.Read.{lookup, table, read, registers_read}
 use Rattle.decoding.specs.Steps.{lookups_of, lit_lights, needs_half, needs_view, lighting_of, lighting_on, read_steps}
-use Rattle.decoding.specs.KeptLaws.{kept_same}
-use Rattle.decoding.specs.LimitLaws.{lighting_limits}
-use Rattle.decoding.specs.ReadLaws.{read_law}
+use Rattle.decoding.proofs.KeptLaws.{kept_same}
+use Rattle.decoding.proofs.LimitLaws.{lighting_limits}
+use Rattle.decoding.proofs.ReadLaws.{read_law}
 
 module _ (f g : List ℕ) (s : SameKept f g) where
   lookups_same : lookups_of f ≡ lookups_of g

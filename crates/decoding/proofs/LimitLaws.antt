@@ -10,7 +10,7 @@ use Rattle.lighting.specs.declared.Light.{Light}
 use Rattle.decoding.specs.Registers.{reg_config1, reg_table_scale, register_of, bits_of, flag_of}
 use Rattle.decoding.specs.Read.{config, supported, scale_of, lookup, table, bump, shadow}
 use Rattle.decoding.specs.Steps.{lights_of, slot_light, lookups_of, needs_half, needs_view, lighting_of}
-use Rattle.decoding.specs.LightLaws.{count_low, count_high, config_lt, lights_length, light_at_lem, blank_beyond, slot_number_lt, slot_fits, colour_vector}
+use Rattle.decoding.proofs.LightLaws.{count_low, count_high, config_lt, lights_length, light_at_lem, blank_beyond, slot_number_lt, slot_fits, colour_vector}
 use Rattle.decoding.specs.Claims.{LookupLimits, OptionalLookupLimits, BumpLimits, ShadowLimits, LightLimits, Limits}
 
 -- what holds of 1, 2, 4, 8, 0, 0.25 and 0.5 holds of every code's scale

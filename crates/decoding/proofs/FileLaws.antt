@@ -4,7 +4,7 @@ use Rattle.std.proofs.Common.{refl, arith, get_or-take, take-take, lit<, lit≤}
 use Rattle.decoding.specs.Claims.{SameKept}
 use Rattle.decoding.specs.Registers.{register_of}
 use Rattle.decoding.specs.Read.{read, registers_read}
-use Rattle.decoding.specs.DecodeLaws.{read_same, read_same_kept}
+use Rattle.decoding.proofs.DecodeLaws.{read_same, read_same_kept}
 
 -- the kept words are among the first 474
 part_take : (a b c : ℕ) (f : List ℕ) → b + a ≤ c → take a (drop b (take c f)) ≡ take a (drop b f)

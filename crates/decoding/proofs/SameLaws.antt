@@ -7,7 +7,7 @@ use Rattle.decoding.specs.Registers.{reg_lights}
 use Rattle.decoding.specs.Read.{config, light_count, light_number}
 use Rattle.decoding.specs.Steps.{light_register, light_colour, position_of, spot_of, distance_of, spotlit_of, light_of, slot_light, lights_of}
 use Rattle.decoding.specs.Claims.{SameLights}
-use Rattle.decoding.specs.LightLaws.{number_lt}
+use Rattle.decoding.proofs.LightLaws.{number_lt}
 
 module _ (f g : List ℕ) (s : SameLights f g) where
   pub count_same : light_count f ≡ light_count g
