@@ -1,9 +1,11 @@
 -- What the code computes step by step; nobody has to trust it: the contracts of `lighting_with` and `read_block` tie it to Block's `block_lighting_with` and
 -- `block_read`, and FormLaws say what a form means. Definitions only.
-use Rattle.std.specs.Prelude.{ℕ, Bool, true, false, eqb}
+use Rattle.std.specs.Prelude.{ℕ, ◌≡◌, Bool, cond, eqb, List, Option, None, Some, Result, Ok, Err}
+use Rattle.refusals.specs.declared.Refusal.{Refusal}
+use Rattle.refusals.specs.declared.Refusal.TheVariants.{NotWellFormed as BadBlock}
 use Rattle.lighting.specs.declared.TableLookups.{TableLookups}
-use Rattle.block.specs.declared.BlockForm.{BlockForm}
 use Rattle.block.specs.declared.BlockForm.TheVariants.{Off, NotWellFormed, NanFree, WithNan}
+use Rattle.block.specs.Steps.{block_form}
 use Rattle.block.specs.Block.{from, lookup_at, bit_at, block_bump, block_shadow, block_lookup, block_optional_lookup}
 use Rattle.block_reading.specs.declared.head.Options.{Options}
 
@@ -36,18 +38,10 @@ head_lookups w =
       spotlight = block_lookup (from w (lookup_at 6));
     }
 
--- ---- what follows from the form that the check found
+-- ---- what the check found
 
--- whether a block of this form reads as a lighting
-unfoldable pub is_lit : BlockForm → Bool
-is_lit Off = false
-is_lit NotWellFormed = false
-is_lit NanFree = true
-is_lit WithNan = true
-
--- whether it does, and no word is a NaN's pattern
-unfoldable pub is_plain : BlockForm → Bool
-is_plain Off = false
-is_plain NotWellFormed = false
-is_plain NanFree = true
-is_plain WithNan = false
+-- a lit block's words are those that were checked, and its mark says whether none is a NaN's pattern
+unfoldable pub Found : {A : Type 0} → List ℕ → (A → List ℕ) → (A → Bool) → Result (Option A) Refusal → Type 0
+Found b words plain (Ok None) = block_form b ≡ Off
+Found b words plain (Ok (Some lit)) = (words lit ≡ b) × (block_form b ≡ cond (plain lit) NanFree WithNan)
+Found b words plain (Err refusal) = (refusal ≡ BadBlock) × (block_form b ≡ NotWellFormed)

@@ -1,13 +1,12 @@
-// The head of a block: what it says of the whole lighting, its lights left out. The words come as words or as bytes.
-ghost use Rattle.std.specs.Prelude.{◌≡◌, true, ◌+◌, ◌≤◌, length, map};
+// The head of a block: what it says of the whole lighting, its lights left out.
+ghost use Rattle.std.specs.Prelude.{◌≡◌, ◌+◌, ◌≤◌, map};
 ghost use Rattle.block.specs.Block.{words, from, block_bump, block_shadow, block_lookup, block_optional_lookup, block_lighting_with};
-ghost use Rattle.block.specs.Steps.{nan_free};
 ghost use Rattle.block_reading.specs.Steps.{head_options, head_lookups};
 
-use crate::light::plain_vector;
+use crate::lit::LitBlock;
 use binary32::float_of;
 use lighting::{Bump, Light, Lighting, Lookup, Shadow, TableLookups};
-use sources::words::{Word, value_at};
+use sources::words::Word;
 
 // The words before the lookups but the count.
 #[derive(Clone, Copy)]
@@ -54,23 +53,23 @@ fn shadow_of(n: u32) -> Option<Shadow>
 
 // The lookup of the four words from `at` on: presence, input, absolute, scale.
 #[inline(always)]
-fn lookup_of<W: Word>(block: &[W], at: usize) -> Lookup
-    requires { (length block.now ≡ 328) × (at + 4 ≤ 328) }
-    ensures { result ≡ block_lookup (from (words (map W.value block.now)) at) }
+fn lookup_of<W: Word>(block: LitBlock<'_, W>, at: usize) -> Lookup
+    requires { at + 4 ≤ 328 }
+    ensures { result ≡ block_lookup (from (words (map W.value block.entry.words.now)) at) }
 {
     Lookup {
-        input: value_at(block, at + 1),
-        absolute: value_at(block, at + 2) == 1,
-        scale: float_of(value_at(block, at + 3)),
+        input: block.word(at + 1),
+        absolute: block.word(at + 2) == 1,
+        scale: float_of(block.word(at + 3)),
     }
 }
 
 #[inline(always)]
-fn optional_lookup_of<W: Word>(block: &[W], at: usize) -> Option<Lookup>
-    requires { (length block.now ≡ 328) × (at + 4 ≤ 328) }
-    ensures { result ≡ block_optional_lookup (from (words (map W.value block.now)) at) }
+fn optional_lookup_of<W: Word>(block: LitBlock<'_, W>, at: usize) -> Option<Lookup>
+    requires { at + 4 ≤ 328 }
+    ensures { result ≡ block_optional_lookup (from (words (map W.value block.entry.words.now)) at) }
 {
-    if value_at(block, at) == 1 {
+    if block.word(at) == 1 {
         Some(lookup_of(block, at))
     } else {
         None
@@ -78,27 +77,25 @@ fn optional_lookup_of<W: Word>(block: &[W], at: usize) -> Option<Lookup>
 }
 
 #[inline(always)]
-fn options_of<W: Word>(block: &[W]) -> Options
-    requires { length block.now ≡ 328 }
-    ensures { result ≡ head_options (words (map W.value block.now)) }
+fn options_of<W: Word>(block: LitBlock<'_, W>) -> Options
+    ensures { result ≡ head_options (words (map W.value block.entry.words.now)) }
 {
-    let needs = value_at(block, 7);
+    let needs = block.word(7);
     Options {
-        config: value_at(block, 0),
-        bump: bump_of(value_at(block, 2)),
-        shadow: shadow_of(value_at(block, 3)),
-        fresnel_primary: value_at(block, 4) == 1,
-        fresnel_secondary: value_at(block, 5) == 1,
-        clamp_highlights: value_at(block, 6) == 1,
+        config: block.word(0),
+        bump: bump_of(block.word(2)),
+        shadow: shadow_of(block.word(3)),
+        fresnel_primary: block.word(4) == 1,
+        fresnel_secondary: block.word(5) == 1,
+        clamp_highlights: block.word(6) == 1,
         needs_half: needs % 2 == 1,
         needs_view: needs / 2 % 2 == 1,
     }
 }
 
 #[inline(always)]
-fn lookups_of<W: Word>(block: &[W]) -> TableLookups
-    requires { length block.now ≡ 328 }
-    ensures { result ≡ head_lookups (words (map W.value block.now)) }
+fn lookups_of<W: Word>(block: LitBlock<'_, W>) -> TableLookups
+    ensures { result ≡ head_lookups (words (map W.value block.entry.words.now)) }
 {
     TableLookups {
         distribution0: optional_lookup_of(block, 8),
@@ -113,26 +110,23 @@ fn lookups_of<W: Word>(block: &[W]) -> TableLookups
 
 // How many lights are on.
 #[inline(always)]
-pub(crate) fn light_count<W: Word>(block: &[W]) -> usize
-    requires { length block.now ≡ 328 }
-    ensures { result ≡ words (map W.value block.now) 1 }
+pub(crate) fn light_count<W: Word>(block: LitBlock<'_, W>) -> usize
+    ensures { result ≡ words (map W.value block.entry.words.now) 1 }
 {
-    value_at(block, 1) as usize
+    block.word(1) as usize
 }
 
-// The lighting of a block that isn't off, with these lights. The block shader reads them where it needs them, and has blank ones here.
-// Asks: what the check found, a block's length and, where `plain` is set, that no word is a NaN's pattern.
+// The lighting of a block, with these lights. The block shader reads them where it needs them, and has blank ones here.
 #[inline(always)]
-pub fn lighting_with<W: Word>(block: &[W], plain: bool, lights: [Light; 8]) -> Lighting
-    requires { (length block.now ≡ 328) × (plain ≡ true → nan_free (words (map W.value block.now)) ≡ true) }
-    ensures { result ≡ block_lighting_with (words (map W.value block.now)) lights }
+pub fn lighting_with<W: Word>(block: LitBlock<'_, W>, lights: [Light; 8]) -> Lighting
+    ensures { result ≡ block_lighting_with (words (map W.value block.entry.words.now)) lights }
 {
     let options = options_of(block);
     let lookups = lookups_of(block);
     Lighting {
         lights,
         light_count: light_count(block),
-        global_ambient: plain_vector(block, 36, plain),
+        global_ambient: block.vector(36),
         config: options.config,
         distribution0: lookups.distribution0,
         distribution1: lookups.distribution1,

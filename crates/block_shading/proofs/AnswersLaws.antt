@@ -7,41 +7,15 @@ use Rattle.std.proofs.Math.Path.{refl, ap}
 use Rattle.std.proofs.Math.Bool.{true, false, cond}
 use borrow.Author.Tests.{eq-eqb, ne_eqb, eqb-true}
 use Rattle.refusals.specs.Refusals.{block_refusal, tables_refusal, fragment_refusal, answer_refusal}
-use Rattle.block.specs.declared.BlockForm.TheVariants.{Off as OffForm, NotWellFormed as BadForm, NanFree, WithNan}
-use Rattle.block.specs.Block.{words, all_zero, well_formed, block_lighting, block_reading, words_refusal}
-use Rattle.block.specs.Steps.{nan_free, form_of, block_form}
+use Rattle.block.specs.declared.BlockForm.TheVariants.{Off, NotWellFormed}
+use Rattle.block.specs.Block.{words, block_lighting, block_reading, words_refusal}
+use Rattle.block.specs.Steps.{block_form}
 use Rattle.lighting.specs.declared.Lighting.{Lighting}
 use Rattle.lighting.specs.Lighting.{off, on}
 use Rattle.shading.specs.Shade.{shaded}
-use Rattle.block_shading.specs.BlockShading.{block_shading_refusal, shaded_by, block_shading_if, block_shading, fragments_refusal, shade_fragments_refusal, shaded_each_by, shade_fragments_if, shade_fragments}
-use Rattle.block_shading.specs.Steps.{is_off, shaded_by_form}
+use Rattle.block_shading.specs.BlockShading.{block_shading_refusal, shaded_by, block_shading_if, block_shading, fragments_refusal, shade_fragments_refusal, eight_of, eight_of_each, shaded_each_by, shade_fragments_if, shade_fragments}
 use Rattle.block_shading.specs.FragmentsLaws.{each_of_one, each_at}
-use Rattle.block_reading.specs.Steps.{is_lit}
-
-sized : (block : List ℕ) → length block ≡ 328 → block_form block ≡ form_of (words block)
-unfolding block_form
-sized block b = rw (eq-eqb (length block) 328 b) refl
-
-module _ (w : ℕ → ℕ) where
-  passed_off : all_zero w ≡ true → words_refusal w ≡ 0
-  unfolding words_refusal
-  passed_off z = rw z refl
-
-  passed_lit : all_zero w ≡ false → well_formed w ≡ true → words_refusal w ≡ 0
-  unfolding words_refusal
-  passed_lit z f = rw (z, f) refl
-
-  refused_bad : all_zero w ≡ false → well_formed w ≡ false → words_refusal w ≡ 7
-  unfolding words_refusal
-  refused_bad z f = rw (z, f) refl
-
-  reads_off : all_zero w ≡ true → block_reading w ≡ off
-  unfolding block_reading
-  reads_off z = rw z refl
-
-  reads_on : all_zero w ≡ false → block_reading w ≡ on (block_lighting w)
-  unfolding block_reading
-  reads_on z = rw z refl
+use Rattle.block_reading.specs.FormLaws.{Lit, off_passes, off_reads, bad_refused}
 
 module _ (block tables fragment answer : List ℕ) where
   pub wrong_block : (length block ≡ 328 → ⊥) → shaded 6 answer ≡ block_shading block tables fragment answer
@@ -92,20 +66,22 @@ module _ (block tables fragments answers : List ℕ) where
     unfolding shade_fragments
     numbered k e = ap (λ (n : ℕ). shade_fragments_if n block tables fragments answers) (passes ∙ e)
 
-    read_as : (r : Option Lighting) → block_reading (words block) ≡ r → shade_fragments_if 0 block tables fragments answers ≡ shaded_each_by r tables fragments answers
+    read_as : (r : Option Lighting) → words_refusal (words block) ≡ 0 → block_reading (words block) ≡ r → shade_fragments block tables fragments answers ≡ shaded_each_by r tables fragments answers
     unfolding shade_fragments_if
-    read_as r e = ap (λ (x : Option Lighting). shaded_each_by x tables fragments answers) e
+    read_as r p e = numbered 0 p ∙ ap (λ (x : Option Lighting). shaded_each_by x tables fragments answers) e
 
     -- with the right lengths, by the form of the block's words
-    pub by_form : shaded_by_form block tables fragments answers ≡ shade_fragments block tables fragments answers
-    unfolding shaded_by_form is_lit is_off form_of shade_fragments_if shaded_each_by
-    by_form = go (all_zero (words block)) (well_formed (words block)) (nan_free (words block)) refl refl (sized block b)
-      where
-        go : (zeros formed plain : Bool) → all_zero (words block) ≡ zeros → well_formed (words block) ≡ formed → block_form block ≡ cond zeros OffForm (cond formed (cond plain NanFree WithNan) BadForm) → shaded_by_form block tables fragments answers ≡ shade_fragments block tables fragments answers
-        go true formed plain z w e = rw e (sym (numbered 0 (passed_off (words block) z) ∙ read_as off (reads_off (words block) z)))
-        go false true true z w e = rw e (sym (numbered 0 (passed_lit (words block) z w) ∙ read_as (on (block_lighting (words block))) (reads_on (words block) z)))
-        go false true false z w e = rw e (sym (numbered 0 (passed_lit (words block) z w) ∙ read_as (on (block_lighting (words block))) (reads_on (words block) z)))
-        go false false plain z w e = rw e (sym (numbered 7 (refused_bad (words block) z w)))
+    pub off_by_form : block_form block ≡ Off → shaded 100 answers ≡ shade_fragments block tables fragments answers
+    unfolding shaded_each_by
+    off_by_form e = sym (read_as off (off_passes block e) (off_reads block e))
+
+    pub bad_by_form : block_form block ≡ NotWellFormed → shaded 7 answers ≡ shade_fragments block tables fragments answers
+    unfolding shade_fragments_if
+    bad_by_form e = sym (numbered 7 (bad_refused block b e))
+
+    pub lit_by_form : Lit block → shaded 0 (eight_of_each (block_lighting (words block)) tables (length fragments / 23) fragments) ≡ shade_fragments block tables fragments answers
+    unfolding shaded_each_by
+    lit_by_form e = sym (read_as (on (block_lighting (words block))) e.passes e.reads)
 
 -- ---- one fragment is a list of one
 
@@ -127,8 +103,19 @@ module _ (block tables fragment answer : List ℕ) (f : length fragment ≡ 23) 
   unfolding block_shading shade_fragments
   one_fragment = rw same_refusal (same_if (shade_fragments_refusal block tables fragment answer))
 
-  pub by_form_of_one : length block ≡ 328 → length tables ≡ 12288 → shaded_by_form block tables fragment answer ≡ block_shading block tables fragment answer
-  by_form_of_one b t = by_form block tables fragment answer b t (whole_fragments (length fragment) (length answer) (omega (arith, f)) (omega (arith, f, a))) ∙ sym one_fragment
+  module _ (b : length block ≡ 328) (t : length tables ≡ 12288) where
+    passed : fragments_refusal (length fragment) (length answer) ≡ 0
+    passed = whole_fragments (length fragment) (length answer) (omega (arith, f)) (omega (arith, f, a))
+
+    pub off_of_one : block_form block ≡ Off → shaded 100 answer ≡ block_shading block tables fragment answer
+    off_of_one e = off_by_form block tables fragment answer b t passed e ∙ sym one_fragment
+
+    pub bad_of_one : block_form block ≡ NotWellFormed → shaded 7 answer ≡ block_shading block tables fragment answer
+    bad_of_one e = bad_by_form block tables fragment answer b t passed e ∙ sym one_fragment
+
+    pub lit_of_one : Lit block → shaded 0 (eight_of (block_lighting (words block)) tables fragment) ≡ block_shading block tables fragment answer
+    lit_of_one e =
+        ap (shaded 0) (sym (each_of_one (block_lighting (words block)) tables fragment f)) ∙ lit_by_form block tables fragment answer b t passed e ∙ sym one_fragment
 
 -- ---- each of many
 

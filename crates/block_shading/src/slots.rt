@@ -1,16 +1,15 @@
-// The shading of fragments' words from a block that was found well formed: its head is read once, its lights slot by slot, where they are needed. The block,
-// the tables and the fragments come as words or as bytes.
-ghost use Rattle.std.specs.Prelude.{◌≡◌, true, ◌+◌, ◌*◌, ◌/◌, ◌≤◌, ◌<◌, length, drop, map};
-ghost use Rattle.block_shading.specs.BlockShading.{quaternion_of, view_of, texels_of, eight_of, eight_of_each};
-ghost use Rattle.block.specs.Block.{words, well_formed, block_lights, block_lighting};
-ghost use Rattle.block.specs.Steps.{nan_free};
-ghost use Rattle.lighting.specs.Lighting.{bump_unit, shadow_unit};
-ghost use Rattle.block_shading.specs.Steps.{head_of};
+// The shading of fragments' words from a block that was found lit: its head is read once, its lights slot by slot, where they are needed. The block, the tables and
+// the fragments come as words or as bytes.
+ghost use Rattle.std.specs.Prelude.{◌≡◌, ◌*◌, ◌<◌, [], length, map, slice_index_or};
+ghost use Rattle.block_shading.specs.BlockShading.{quaternion_of, eight_of};
+ghost use Rattle.block.specs.Block.{words, block_lights, block_lighting};
+ghost use Rattle.block_shading.specs.Steps.{head_of, eights};
 ghost use Rattle.surface.specs.Steps.{unit_quaternion};
-ghost use Rattle.shading.specs.Steps.{sums_by, lighting_frame, lighting_shadow};
+ghost use Rattle.shading.specs.Steps.{sums_by};
 
 use crate::fragments;
 use block_reading::light::light_of;
+use block_reading::lit::LitBlock;
 use light_steps::types::{LightingLookups, Settings, Sums};
 use lighting::{Lighting, Slot, blank_light};
 use sources::words::Word;
@@ -19,145 +18,100 @@ use surface::Frame;
 // The lighting but its lights, which stay blank.
 #[inline(always)]
 #[tactic(auto, unfolding(crate::specs::Steps::head_of))]
-fn head_of<W: Word>(block: &[W], plain: bool) -> Lighting
-    requires { (length block.now ≡ 328) × (plain ≡ true → nan_free (words (map W.value block.now)) ≡ true) }
-    ensures { result ≡ head_of (words (map W.value block.now)) }
+fn head_of<W: Word>(block: LitBlock<'_, W>) -> Lighting
+    ensures { result ≡ head_of (words (map W.value block.entry.words.now)) }
 {
     let lights = [blank_light(); 8];
-    block_reading::head::lighting_with(block, plain, lights)
-}
-
-// The unit quaternion of the fragment whose words start at `at`.
-// Asks: there are its 23 words.
-#[inline(always)]
-pub fn unit_quaternion_of<W: Word>(words: &[W], at: usize) -> [f32; 4]
-    requires { (at + 23 ≤ length words.now) × (at + 23 < 0x10000000000000000) }
-    ensures { result ≡ unit_quaternion (quaternion_of (drop at (map W.value words.now))) }
-{
-    surface::unit_quaternion(fragments::quaternion_of(words, at))
-}
-
-// Of the fragment whose words start at `at`, with its unit quaternion.
-#[inline(always)]
-#[tactic(auto, using(crate::proofs::slots::Texels::texel), unfolding(surface::specs::Steps::frame_of, shading::specs::Steps::lighting_frame))]
-fn frame_of<W: Word>(l: Lighting, words: &[W], at: usize, unit: [f32; 4]) -> Frame
-    requires { (bump_unit l.bump ≤ 3) × (at + 23 ≤ length words.now) × (at + 23 < 0x10000000000000000) × (unit ≡ unit_quaternion (quaternion_of (drop at (map W.value words.now)))) }
-    ensures { result ≡ lighting_frame l (quaternion_of (drop at (map W.value words.now))) (view_of (drop at (map W.value words.now))) (texels_of (drop at (map W.value words.now))) }
-{
-    let view = fragments::view_of(words, at);
-    let texel = fragments::texel_at(words, at, lighting::bump_unit(l.bump));
-    surface::frame_of(l.bump, texel, l.config, l.needs_view, unit, view)
+    block_reading::head::lighting_with(block, lights)
 }
 
 #[inline(always)]
-#[tactic(auto, using(crate::proofs::slots::Texels::texel), unfolding(shading::specs::Steps::lighting_shadow))]
-fn shadow_of<W: Word>(l: Lighting, words: &[W], at: usize) -> [f32; 4]
-    requires { (shadow_unit l.shadow ≤ 3) × (at + 23 ≤ length words.now) × (at + 23 < 0x10000000000000000) }
-    ensures { result ≡ lighting_shadow l (texels_of (drop at (map W.value words.now))) }
+pub fn unit_quaternion_of<W: Word>(fragment: &[W; 23]) -> [f32; 4]
+    ensures { result ≡ unit_quaternion (quaternion_of (map W.value fragment.now)) }
 {
-    let texel = fragments::texel_at(words, at, lighting::shadow_unit(l.shadow));
-    surface::shadow::shadow_texel(l.shadow, texel)
+    surface::unit_quaternion(fragments::quaternion_of(fragment))
 }
 
-// The sums of the lit slots. `plain` says that no word of the block is a NaN's pattern. A loop beside that of `shading::sums`, which has the lights in a list: one
-// over a closure that gives a slot's light would say in its contract what each call gives, and be longer than both.
+// The sums of the lit slots. A loop beside that of `shading::sums`, which has the lights in a list: one over a closure that gives a slot's light would say in its
+// contract what each call gives, and be longer than both.
 #[inline(always)]
 #[tactic(auto, using(crate::specs::HeadLaws::few, crate::specs::HeadLaws::lit_number, crate::specs::HeadLaws::lit_light), unfolding(shading::specs::Steps::sums_by))]
 fn sum_slots<B: Word, T: Word>(
-    block: &[B],
-    tables: &[T],
-    plain: bool,
+    block: LitBlock<'_, B>,
+    tables: &[T; 12288],
     lookups: LightingLookups,
     frame: Frame,
     settings: Settings,
     count: usize,
 ) -> Sums
-    requires lengths { (length block.now ≡ 328) × (length tables.now ≡ 12288) }
-    requires formed { (well_formed (words (map B.value block.now)) ≡ true) × (count ≡ words (map B.value block.now) 1) }
-    requires plain_marks { plain ≡ true → nan_free (words (map B.value block.now)) ≡ true }
-    ensures { result ≡ sums_by (map T.value tables.now) lookups frame settings (block_lights (words (map B.value block.now))) count count }
+    requires { count ≡ words (map B.value block.words.now) 1 }
+    ensures { result ≡ sums_by (map T.value tables.now) lookups frame settings (block_lights (words (map B.value block.entry.words.now))) count count }
 {
-    let mut sums = Sums {
-        diffuse: [0.0, 0.0, 0.0, 1.0],
-        specular: [0.0, 0.0, 0.0, 1.0],
-    };
+    let mut sums = shading::sums::start();
     for slot in 0..count {
-        let light = light_of(block, Slot(slot), plain);
+        let light = light_of(block, Slot(slot));
         let last = shading::sums::is_last(Slot(slot), count);
         sums = light_steps::step(tables, lookups, frame, settings, last, light, sums);
     }
     sums
 }
 
-// The eight channels of the fragment whose words start at `at`, by the block and its head, and the fragment's unit quaternion.
+// The eight channels of a fragment, by the block and its head, and the fragment's unit quaternion.
 #[inline(always)]
-#[tactic(auto, using(crate::specs::HeadLaws::head_bump, crate::specs::HeadLaws::head_shadow, crate::specs::HeadLaws::head_count, crate::specs::HeadLaws::head_shades), unfolding(crate::specs::BlockShading::eight_of))]
+#[tactic(auto, using(crate::specs::HeadLaws::head_bump, crate::specs::HeadLaws::head_shadow, crate::specs::HeadLaws::head_count, crate::specs::HeadLaws::head_shades), unfolding(crate::specs::BlockShading::eight_of, surface::specs::Steps::frame_of, shading::specs::Steps::lighting_frame, shading::specs::Steps::lighting_shadow))]
 fn shade_one<B: Word, T: Word, F: Word>(
-    block: &[B],
-    tables: &[T],
-    fragments: &[F],
-    at: usize,
-    plain: bool,
+    block: LitBlock<'_, B>,
+    tables: &[T; 12288],
+    fragment: &[F; 23],
     head: Lighting,
     unit: [f32; 4],
 ) -> [u32; 8]
-    requires lengths { (length block.now ≡ 328) × (length tables.now ≡ 12288) × (at + 23 ≤ length fragments.now) × (at + 23 < 0x10000000000000000) }
-    requires formed { (well_formed (words (map B.value block.now)) ≡ true) × (head ≡ head_of (words (map B.value block.now))) }
-    requires plain_marks { (plain ≡ true → nan_free (words (map B.value block.now)) ≡ true) × (unit ≡ unit_quaternion (quaternion_of (drop at (map F.value fragments.now)))) }
-    ensures { result ≡ eight_of (block_lighting (words (map B.value block.now))) (map T.value tables.now) (drop at (map F.value fragments.now)) }
+    requires { (head ≡ head_of (words (map B.value block.words.now))) × (unit ≡ unit_quaternion (quaternion_of (map F.value fragment.now))) }
+    ensures { result ≡ eight_of (block_lighting (words (map B.value block.entry.words.now))) (map T.value tables.now) (map F.value fragment.now) }
 {
-    let frame = frame_of(head, fragments, at, unit);
-    let shadow = shadow_of(head, fragments, at);
+    let view = fragments::view_of(fragment);
+    let bump = fragments::texel_at(fragment, lighting::bump_unit(head.bump));
+    let frame = shading::parts::frame_of(head, unit, view, bump);
+    let texel = fragments::texel_at(fragment, lighting::shadow_unit(head.shadow));
+    let shadow = shading::parts::shadow_of(head, texel);
     let lookups = shading::parts::lookups_of(head);
     let settings = shading::parts::settings_of(head, shadow);
-    let sums = sum_slots(
-        block,
-        tables,
-        plain,
-        lookups,
-        frame,
-        settings,
-        head.light_count,
-    );
+    let sums = sum_slots(block, tables, lookups, frame, settings, head.light_count);
     shading::parts::finished(head, sums, shadow)
 }
 
 // The unit quaternion of fragment i: the first one's is there.
 #[inline(always)]
-fn unit_quaternion_at<W: Word>(fragments: &[W], i: usize, first: [f32; 4]) -> [f32; 4]
-    requires { (i < length fragments.now / 23) × (length fragments.now < 0x10000000000000000) × (first ≡ unit_quaternion (quaternion_of (map W.value fragments.now))) }
-    ensures { result ≡ unit_quaternion (quaternion_of (drop (23 * i) (map W.value fragments.now))) }
+fn unit_quaternion_at<W: Word>(fragments: &[[W; 23]], i: usize, first: [f32; 4]) -> [f32; 4]
+    requires { (i < length fragments.now) × (first ≡ unit_quaternion (quaternion_of (map W.value (slice_index_or fragments.now 0 [])))) }
+    ensures { result ≡ unit_quaternion (quaternion_of (map W.value (slice_index_or fragments.now i []))) }
 {
     if i == 0 {
         first
     } else {
-        unit_quaternion_of(fragments, 23 * i)
+        unit_quaternion_of(&fragments[i])
     }
 }
 
-// The eight channels of each of `count` fragments, 0 to 255, in the printed order, into its 8 words of the answers. `first` is the first fragment's unit
-// quaternion: whoever makes it before the check of the block has its root and quotients done while the check runs.
-// Asks: the right lengths and a well-formed block, without a NaN's pattern where `plain` is set: its callers, on words and on bytes, have checked them. One
-// function serves one fragment and many, since the steps of a light are put into its loop only while they are called from one place.
-#[tactic(auto, using(crate::specs::FragmentsLaws::none, crate::specs::FragmentsLaws::each_put))]
+// The eight channels of each fragment, 0 to 255, in the printed order, into its 8 words of the answers. `first` is the first fragment's unit quaternion: whoever
+// makes it before the check of the block has its root and quotients done while the check runs.
+// Asks: 8 words of answers for each fragment, which its callers have counted. The answers are no `&mut [[u32; 8]]`: the library says nothing of what a slice of words
+// ends as when its `as_chunks_mut` has been written to. One function serves one fragment and many.
+#[tactic(auto, using(crate::specs::FragmentsLaws::eights_put))]
 pub fn shade_each<B: Word, T: Word, F: Word>(
-    block: &[B],
-    tables: &[T],
-    fragments: &[F],
-    count: usize,
+    block: LitBlock<'_, B>,
+    tables: &[T; 12288],
+    fragments: &[[F; 23]],
     first: [f32; 4],
-    plain: bool,
     answers: &mut [u32],
 )
-    requires lengths { (length block.now ≡ 328) × (length tables.now ≡ 12288) × (count ≡ length fragments.now / 23) × (length fragments.now < 0x10000000000000000) × (length answers.old ≡ 8 * count) }
-    requires formed { well_formed (words (map B.value block.now)) ≡ true }
-    requires plain_marks { (plain ≡ true → nan_free (words (map B.value block.now)) ≡ true) × (0 < count → first ≡ unit_quaternion (quaternion_of (map F.value fragments.now))) }
-    ensures { answers.new ≡ eight_of_each (block_lighting (words (map B.value block.now))) (map T.value tables.now) (length fragments.now / 23) (map F.value fragments.now) }
+    requires { (length answers.old ≡ 8 * length fragments.now) × (0 < length fragments.now → first ≡ unit_quaternion (quaternion_of (map F.value (slice_index_or fragments.now 0 [])))) }
+    ensures { answers.new ≡ eights (block_lighting (words (map B.value block.entry.words.now))) (map T.value tables.now) F.value fragments.now }
 {
-    let head = head_of(block, plain);
-    for i in 0..count {
+    let head = head_of(block);
+    for i in 0..fragments.len() {
         let unit = unit_quaternion_at(fragments, i, first);
-        let channels = shade_one(block, tables, fragments, 23 * i, plain, head, unit);
+        let channels = shade_one(block, tables, &fragments[i], head, unit);
         shading::answer_words::put(answers, 8 * i, channels);
     }
 }

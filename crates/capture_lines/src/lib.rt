@@ -1,66 +1,66 @@
 // The lines that a capture's fragments print, from the copy's block and tables: each is what block shading answers. The block is checked once for all of them.
 #![tactic(auto)]
 
-ghost use Rattle.std.specs.Prelude.{◌≡◌, true, ◌+◌, ◌*◌, ◌/◌, ◌≤◌, length};
-ghost use Rattle.block.specs.Block.{words, well_formed, block_lighting};
-ghost use Rattle.block.specs.Steps.{nan_free};
+ghost use Rattle.std.specs.Prelude.{◌≡◌, ℕ, ◌+◌, ◌*◌, ◌/◌, ◌≤◌, List, length};
+ghost use Rattle.block.specs.Block.{words, block_lighting};
 ghost use Rattle.printing.specs.Steps.{Adds, HasRoom};
 ghost use Rattle.capture_lines.specs.Lines.{shown_line, fragment_lines};
-ghost use Rattle.capture_lines.specs.Steps.{lit_shades, block_shades, found as found_of};
+ghost use Rattle.capture_lines.specs.Steps.{lit_shades, block_shades, found_shades};
 
-use block::BlockForm;
+use block_reading::lit::{LitBlock, checked};
 use printing::Lines;
 use refusals::Refusal;
+use std::slice;
 
-// A fragment's words.
-type Fragment = [u32; 23];
-
-// What is found of a block and tables, once for all fragments: a refusal, or `None` where the block is off, or of a block that colours whether no word is a NaN's pattern.
-#[tactic(auto, unfolding(crate::specs::Steps::found), using(sources::proofs::WordsLaws::word_values))]
-fn found(block: &[u32], tables: &[u32]) -> Result<Option<bool>, Refusal>
-    ensures { result ≡ found_of block.now tables.now }
+// What is found of a block and tables, once for all fragments: a refusal, or `None` where the block is off, or a block that colours beside the tables.
+fn found<'a>(
+    block: &'a [u32],
+    tables: &'a [u32],
+) -> Result<Option<(LitBlock<'a, u32>, &'a [u32; 12288])>, Refusal>
+    ensures { (q : List ℕ) → length q ≡ 23 → block_shades block.now tables.now q ≡ found_shades (λ lit. lit_shades (block_lighting (words lit.0.words.now)) lit.1.now) result q }
 {
-    if block.len() != 328 {
+    let Ok(block) = <&[u32; 328]>::try_from(block) else {
         return Err(Refusal::WrongBlock);
-    }
-    if tables.len() != 12288 {
+    };
+    let Ok(tables) = <&[u32; 12288]>::try_from(tables) else {
         return Err(Refusal::WrongTables);
-    }
-    match block_check::form(block) {
-        BlockForm::NanFree => Ok(Some(true)),
-        BlockForm::WithNan => Ok(Some(false)),
-        BlockForm::Off => Ok(None),
-        BlockForm::NotWellFormed => Err(Refusal::NotWellFormed),
+    };
+    match checked(block) {
+        Ok(Some(block)) => Ok(Some((block, tables))),
+        Ok(None) => Ok(None),
+        Err(refusal) => Err(refusal),
     }
 }
 
-// The line of a fragment that the block colours, which was found well formed.
-fn print_lit(block: &[u32], plain: bool, tables: &[u32], fragment: &Fragment, lines: &mut Lines<'_>)
-    requires block_len { (length block.now ≡ 328) × (well_formed (words block.now) ≡ true) × (plain ≡ true → nan_free (words block.now) ≡ true) }
-    requires tables_len { (length tables.now ≡ 12288) × HasRoom lines.old 32 }
-    ensures text { Adds lines.old lines.new (shown_line (lit_shades (block_lighting (words block.now)) tables.now fragment.now)) }
+// The line of a fragment that the block colours.
+fn print_lit(
+    block: LitBlock<'_, u32>,
+    tables: &[u32; 12288],
+    fragment: &[u32; 23],
+    lines: &mut Lines<'_>,
+)
+    requires { HasRoom lines.old 32 }
+    ensures text { Adds lines.old lines.new (shown_line (lit_shades (block_lighting (words block.entry.words.now)) tables.now fragment.now)) }
     ensures room { lines.new.len ≤ lines.old.len + 32 }
 {
     let mut k = [0u32; 8];
-    let unit = block_shading::slots::unit_quaternion_of(fragment, 0);
-    block_shading::slots::shade_each(block, tables, fragment, 1, unit, plain, &mut k);
+    let unit = block_shading::slots::unit_quaternion_of(fragment);
+    block_shading::slots::shade_each(block, tables, slice::from_ref(fragment), unit, &mut k);
     lines.put_line(k);
 }
 
 // The line of a fragment, by what was found of the block and the tables: its colours, `off`, or a refusal.
 fn print_fragment(
-    found: Result<Option<bool>, Refusal>,
-    block: &[u32],
-    tables: &[u32],
-    fragment: &Fragment,
+    found: Result<Option<(LitBlock<'_, u32>, &[u32; 12288])>, Refusal>,
+    fragment: &[u32; 23],
     lines: &mut Lines<'_>,
 )
-    requires { (found ≡ found_of block.now tables.now) × HasRoom lines.old 32 }
-    ensures text { Adds lines.old lines.new (shown_line (block_shades block.now tables.now fragment.now)) }
+    requires { HasRoom lines.old 32 }
+    ensures text { Adds lines.old lines.new (shown_line (found_shades (λ lit. lit_shades (block_lighting (words lit.0.words.now)) lit.1.now) found.entry fragment.now)) }
     ensures room { lines.new.len ≤ lines.old.len + 32 }
 {
     match found {
-        Ok(Some(plain)) => print_lit(block, plain, tables, fragment, lines),
+        Ok(Some((block, tables))) => print_lit(block, tables, fragment, lines),
         Ok(None) => lines.put_off(),
         Err(refusal) => lines.put_refused(refusal),
     }
@@ -75,6 +75,6 @@ pub fn print_fragments(block: &[u32], tables: &[u32], fragments: &[u32], lines: 
 {
     let found = found(block, tables);
     for fragment in fragments.as_chunks::<23>().0 {
-        print_fragment(found, block, tables, fragment, lines);
+        print_fragment(found, fragment, lines);
     }
 }

@@ -16,6 +16,7 @@ use Rattle.surface.specs.declared.Directions.{Directions}
 use Rattle.light_steps.specs.Steps.{table_for, reading_by, reading_if, spot_reading, fresnel_reading, readings_by, readings_of, read_value, read_all, distance_reading_by, reads_tables, scaled_if, spot_scaled, fresnel_scaled, values_from, unread, lookup_value, value_if, spot_value, fresnel_value, distance_by, distance_value, values_by, values_of, distance_reading}
 use Rattle.surface.specs.Steps.{offset_norm, ray_to}
 use Rattle.surface.specs.RayLaws.{norm_is}
+use Rattle.lighting.specs.declared.TableLookups.{TableLookups}
 use Rattle.light_steps.specs.declared.types.LightingLookups.{LightingLookups}
 use Rattle.vectors.specs.Vectors.{◌⊗◌}
 use Rattle.lighting.specs.Lighting.{table_fresnel}
@@ -73,7 +74,7 @@ module _ (tables : List ℕ) where
   unfolding distance_reading distance_value
   distance_read light view h = distance_read_by light.distance light.number (offset_norm view light.position) h
 
-  values_read : (lookups : LightingLookups) (light : Light) (inputs : List Float) (distance : Float) (last : Bool)
+  values_read : (lookups : TableLookups) (light : Light) (inputs : List Float) (distance : Float) (last : Bool)
       → light.number.0 < 8
       → values_from lookups light (read_all tables (readings_by lookups light inputs last) distance) last
       ≡ values_by tables lookups light inputs distance last
@@ -81,7 +82,7 @@ module _ (tables : List ℕ) where
   values_read lookups light inputs distance last h =
       simp (value_read, fresnel_read, spot_read light lookups.spotlight inputs h)
 
-  values_unread : (lookups : LightingLookups) (light : Light) (inputs : List Float) (distance : Float) (last : Bool)
+  values_unread : (lookups : TableLookups) (light : Light) (inputs : List Float) (distance : Float) (last : Bool)
       → reads_tables lookups light ≡ false
       → unread distance ≡ values_by tables lookups light inputs distance last
   unfolding reads_tables unread values_by value_if spot_value fresnel_value
@@ -98,20 +99,20 @@ module _ (tables : List ℕ) where
   -- the three steps, for a light that reads tables
   pub read_in_steps : (lookups : LightingLookups) (frame : Frame) (directions : Directions) (light : Light) (last : Bool)
       → light.number.0 < 8
-      → values_from lookups light (read_all tables (readings_of lookups frame directions light last) (read_value tables (distance_reading light frame.view))) last
+      → values_from lookups.tables light (read_all tables (readings_of lookups frame directions light last) (read_value tables (distance_reading light frame.view))) last
       ≡ values_of tables lookups frame directions light last
   unfolding readings_of values_of
   read_in_steps lookups frame directions light last h =
-      rw (distance_read light frame.view h) (values_read lookups light _ _ last h)
+      rw (distance_read light frame.view h) (values_read lookups.tables light _ _ last h)
 
   -- a light that reads none
   pub read_none : (lookups : LightingLookups) (frame : Frame) (directions : Directions) (light : Light) (last : Bool)
       → light.number.0 < 8
-      → reads_tables lookups light ≡ false
+      → reads_tables lookups.tables light ≡ false
       → unread (read_value tables (distance_reading light frame.view)) ≡ values_of tables lookups frame directions light last
   unfolding values_of
   read_none lookups frame directions light last h r =
-      rw (distance_read light frame.view h) (values_unread lookups light _ _ last r)
+      rw (distance_read light frame.view h) (values_unread lookups.tables light _ _ last r)
 
 third : (a b c d e f g : Bool) → (a || b || c || d || e || f || g) ≡ false → c ≡ false
 third a b c d e f g h =
@@ -122,7 +123,7 @@ third a b c d e f g h =
     (or_parts (a || b) c w.0).1
 
 -- fresnel is not applied to a light that reads none
-pub none_applied : (lookups : LightingLookups) (light : Light) (last : Bool) → reads_tables lookups light ≡ false → (last && is_some lookups.fresnel) ≡ false
+pub none_applied : (lookups : TableLookups) (light : Light) (last : Bool) → reads_tables lookups light ≡ false → (last && is_some lookups.fresnel) ≡ false
 unfolding reads_tables
 none_applied lookups light last h =
     ap (λ (b : Bool). last && b)

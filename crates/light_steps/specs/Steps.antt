@@ -12,13 +12,13 @@ use Rattle.lighting.specs.declared.Light.{Light}
 use Rattle.lighting.specs.declared.LightNumber.{LightNumber}
 use Rattle.lighting.specs.declared.Lookup.{Lookup}
 use Rattle.lighting.specs.declared.Distance.{Distance}
+use Rattle.lighting.specs.declared.TableLookups.{TableLookups}
 use Rattle.surface.specs.declared.Frame.{Frame}
 use Rattle.surface.specs.Steps.{unit_if, offset_norm, directions_by, directions_of}
 use Rattle.surface.specs.declared.Directions.{Directions}
 use Rattle.light_steps.specs.declared.types.LightingLookups.{LightingLookups}
 use Rattle.light_steps.specs.declared.types.Reading.{Reading}
 use Rattle.light_steps.specs.declared.types.Readings.{Readings}
-use Rattle.light_steps.specs.declared.types.EntryValues.{EntryValues}
 use Rattle.light_steps.specs.declared.types.Values.{Values}
 use Rattle.light_steps.specs.declared.types.Settings.{Settings}
 use Rattle.light_steps.specs.declared.types.Sums.{Sums}
@@ -106,7 +106,7 @@ spot_reading light lookup inputs =
 unfoldable pub fresnel_reading : Bool → Option Lookup → Bool → List Float → Option Reading
 fresnel_reading last lookup twoSided inputs = cond last (reading_if table_fresnel lookup twoSided inputs) None
 
-unfoldable pub readings_by : LightingLookups → Light → List Float → Bool → Readings
+unfoldable pub readings_by : TableLookups → Light → List Float → Bool → Readings
 readings_by lookups light inputs last =
     let twoSided = light.two_sided in
     record {
@@ -121,7 +121,7 @@ readings_by lookups light inputs last =
 
 unfoldable pub readings_of : LightingLookups → Frame → Directions → Light → Bool → Readings
 readings_of lookups frame directions light last =
-    readings_by lookups light (inputs_of lookups.config frame directions lookups.needs_half light.spot) last
+    readings_by lookups.tables light (inputs_of lookups.config frame directions lookups.needs_half light.spot) last
 
 -- ---- what the entries give there
 
@@ -132,7 +132,7 @@ unfoldable pub read_value : List ℕ → Option Reading → Float
 read_value tables None = float1
 read_value tables (Some reading) = at_place tables reading.table reading.place
 
-unfoldable pub read_all : List ℕ → Readings → Float → EntryValues
+unfoldable pub read_all : List ℕ → Readings → Float → Values
 read_all tables readings distance =
     record {
       distance = distance;
@@ -148,7 +148,7 @@ read_all tables readings distance =
 -- ---- whether any table is read
 
 -- whether a light reads any table but its distance table
-unfoldable pub reads_tables : LightingLookups → Light → Bool
+unfoldable pub reads_tables : TableLookups → Light → Bool
 reads_tables lookups light =
     is_some lookups.distribution0
     || is_some lookups.distribution1
@@ -170,7 +170,7 @@ spot_scaled light lookup x = cond light.spotlight (lookup.scale ⊗ x) float1
 unfoldable pub fresnel_scaled : Bool → Option Lookup → Float → Float
 fresnel_scaled last lookup x = cond last (scaled_if lookup x float1) float1
 
-unfoldable pub values_from : LightingLookups → Light → EntryValues → Bool → Values
+unfoldable pub values_from : TableLookups → Light → Values → Bool → Values
 values_from lookups light read last =
     let red = scaled_if lookups.reflect_red read.red float1 in
     record {
@@ -236,7 +236,7 @@ unfoldable pub distance_reading : Light → List Float → Option Reading
 distance_reading light view = distance_reading_by light.distance light.number (offset_norm view light.position)
 
 -- green and blue fall back to red
-unfoldable pub values_by : List ℕ → LightingLookups → Light → List Float → Float → Bool → Values
+unfoldable pub values_by : List ℕ → TableLookups → Light → List Float → Float → Bool → Values
 values_by tables lookups light inputs distance last =
     let twoSided = light.two_sided in
     let red = value_if tables table_reflect_red lookups.reflect_red twoSided inputs float1 in
@@ -253,7 +253,7 @@ values_by tables lookups light inputs distance last =
 
 unfoldable pub values_of : List ℕ → LightingLookups → Frame → Directions → Light → Bool → Values
 values_of tables lookups frame directions light last =
-    values_by tables lookups light (inputs_of lookups.config frame directions lookups.needs_half light.spot)
+    values_by tables lookups.tables light (inputs_of lookups.config frame directions lookups.needs_half light.spot)
     (distance_value tables light frame.view) last
 
 -- ---- the terms of a light, before any shadow
@@ -341,4 +341,4 @@ unread_directions light vector frame needed =
 unfoldable pub step_of : List ℕ → LightingLookups → Frame → Settings → Bool → Light → Sums → Sums
 step_of tables lookups frame settings last light sums =
     let directions = directions_of light frame lookups.needs_half in
-    with_values sums light frame.normal directions (values_of tables lookups frame directions light last) settings (last && is_some lookups.fresnel)
+    with_values sums light frame.normal directions (values_of tables lookups frame directions light last) settings (last && is_some lookups.tables.fresnel)

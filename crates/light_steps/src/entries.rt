@@ -1,16 +1,15 @@
 // What the tables give where a light reads them. They come as words or as bytes, and only the fetching of an entry knows which.
-ghost use Rattle.std.specs.Prelude.{◌≡◌, length, map};
+ghost use Rattle.std.specs.Prelude.{◌≡◌, map};
 ghost use Rattle.light_steps.specs.Steps.{at_place, read_value, read_all};
 
-use crate::types::{EntryValues, Reading, Readings};
+use crate::types::{Reading, Readings, Values};
 use binary32::Place;
 use sources::words::{Word, value_at};
 
-// What a table gives at a place.
+// What a table gives at a place. `tables::entries::lookup` takes words alone, and any number of them, so that it tests each of the two words for itself.
 #[inline(always)]
 #[tactic(auto, unfolding(tables::specs::Tables::table_lookup))]
-fn fetch<W: Word>(tables: &[W], reading: Reading) -> f32
-    requires { length tables.now ≡ 12288 }
+fn fetch<W: Word>(tables: &[W; 12288], reading: Reading) -> f32
     ensures { result ≡ at_place (map W.value tables.now) reading.table reading.place }
 {
     let Place { entry, delta } = reading.place;
@@ -24,11 +23,9 @@ fn fetch<W: Word>(tables: &[W], reading: Reading) -> f32
     }
 }
 
-// Asks: tables of 12,288 words, which the caller has counted once for all its reads.
 #[inline(always)]
 #[tactic(auto, unfolding(crate::specs::Steps::read_value))]
-pub(crate) fn read<W: Word>(tables: &[W], reading: Option<Reading>) -> f32
-    requires { length tables.now ≡ 12288 }
+pub(crate) fn read<W: Word>(tables: &[W; 12288], reading: Option<Reading>) -> f32
     ensures { result ≡ read_value (map W.value tables.now) reading }
 {
     match reading {
@@ -37,14 +34,12 @@ pub(crate) fn read<W: Word>(tables: &[W], reading: Option<Reading>) -> f32
     }
 }
 
-// Asks: as `read`.
 #[inline(always)]
 #[tactic(auto, unfolding(crate::specs::Steps::read_all))]
-pub(crate) fn read_all<W: Word>(tables: &[W], readings: Readings, distance: f32) -> EntryValues
-    requires { length tables.now ≡ 12288 }
+pub(crate) fn read_all<W: Word>(tables: &[W; 12288], readings: Readings, distance: f32) -> Values
     ensures { result ≡ read_all (map W.value tables.now) readings distance }
 {
-    EntryValues {
+    Values {
         distance,
         spot: read(tables, readings.spot),
         distribution0: read(tables, readings.distribution0),

@@ -14,7 +14,7 @@ mod terms;
 pub mod types;
 mod values;
 
-ghost use Rattle.std.specs.Prelude.{◌≡◌, ◌<◌, length, map};
+ghost use Rattle.std.specs.Prelude.{◌≡◌, ◌<◌, map};
 ghost use Rattle.light_steps.specs.Steps.{distance_reading_by, read_value, distance_reading, values_of, unread_directions, step_of};
 
 use crate::types::{LightingLookups, Settings, Sums, Values};
@@ -24,8 +24,7 @@ use surface::{Directions, Frame};
 
 // What a light whose ray has this norm reads from its distance table.
 #[inline(always)]
-fn distance_of<W: Word>(tables: &[W], light: Light, norm: f32) -> f32
-    requires { length tables.now ≡ 12288 }
+fn distance_of<W: Word>(tables: &[W; 12288], light: Light, norm: f32) -> f32
     ensures { result ≡ read_value (map W.value tables.now) (distance_reading_by light.distance light.number norm) }
 {
     entries::read(tables, distance::distance_reading(light, norm))
@@ -35,7 +34,7 @@ fn distance_of<W: Word>(tables: &[W], light: Light, norm: f32) -> f32
 #[inline(always)]
 #[tactic(auto, using(crate::specs::ReadingsLaws::read_in_steps))]
 fn values_of<W: Word>(
-    tables: &[W],
+    tables: &[W; 12288],
     lookups: LightingLookups,
     frame: Frame,
     directions: Directions,
@@ -43,12 +42,12 @@ fn values_of<W: Word>(
     light: Light,
     last: bool,
 ) -> Values
-    requires { (length tables.now ≡ 12288) × (light.number.0 < 8) × (distance ≡ read_value (map W.value tables.now) (distance_reading light frame.view)) }
+    requires { (light.number.0 < 8) × (distance ≡ read_value (map W.value tables.now) (distance_reading light frame.view)) }
     ensures { result ≡ values_of (map W.value tables.now) lookups frame directions light last }
 {
     let readings = readings::readings_of(lookups, frame, directions, light, last);
     let read = entries::read_all(tables, readings, distance);
-    values::values_from(lookups, light, read, last)
+    values::values_from(lookups.tables, light, read, last)
 }
 
 // The directions of a light without tables, of which only a geometric factor reads the half vector: made in that branch, it is worked out for such a light
@@ -69,11 +68,11 @@ fn unread_directions(light: Light, vector: [f32; 3], frame: Frame, needed: bool)
 }
 
 // The sums with one light's contribution. `last` is the last slot lit, where fresnel is applied if there is its lookup.
-// Asks: tables of 12,288 words and a light number below 8, which the caller has looked at once for all its lights and fragments.
+// Asks: a light number below 8, which the caller has looked at once for all its lights and fragments.
 #[inline(always)]
 #[tactic(auto, using(crate::proofs::Rays::directions_is, crate::proofs::Rays::distance_is, crate::proofs::Rays::unread_is, crate::specs::ReadingsLaws::read_none, crate::specs::ReadingsLaws::none_applied), unfolding(crate::specs::Steps::step_of))]
 pub fn step<W: Word>(
-    tables: &[W],
+    tables: &[W; 12288],
     lookups: LightingLookups,
     frame: Frame,
     settings: Settings,
@@ -81,14 +80,14 @@ pub fn step<W: Word>(
     light: Light,
     sums: Sums,
 ) -> Sums
-    requires { (length tables.now ≡ 12288) × (light.number.0 < 8) }
+    requires { light.number.0 < 8 }
     ensures { result ≡ step_of (map W.value tables.now) lookups frame settings last light sums }
 {
     let ray = surface::light::ray_to(light, frame.view);
     let distance = distance_of(tables, light, ray.norm);
-    if values::reads_tables(lookups, light) {
+    if values::reads_tables(lookups.tables, light) {
         let directions = surface::light::directions_of(ray.vector, frame, lookups.needs_half);
-        let applied = values::applies_fresnel(lookups, last);
+        let applied = values::applies_fresnel(lookups.tables, last);
         let values = values_of(tables, lookups, frame, directions, distance, light, last);
         contribution::with_values(
             sums,

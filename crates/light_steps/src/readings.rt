@@ -8,7 +8,7 @@ use crate::types::{LightingLookups, Reading, Readings};
 use lighting::tables::{
     DISTRIBUTION0, DISTRIBUTION1, FRESNEL, REFLECT_BLUE, REFLECT_GREEN, REFLECT_RED, SPOTLIGHT,
 };
-use lighting::{Light, Lookup};
+use lighting::{Light, Lookup, TableLookups};
 use surface::{Directions, Frame};
 
 #[inline(always)]
@@ -44,7 +44,7 @@ fn fresnel_reading(
 
 #[inline(always)]
 #[tactic(auto, unfolding(crate::specs::Steps::readings_by))]
-fn readings_by(lookups: LightingLookups, light: Light, inputs: [f32; 8], last: bool) -> Readings
+fn readings_by(lookups: TableLookups, light: Light, inputs: [f32; 8], last: bool) -> Readings
     ensures { result ≡ readings_by lookups light inputs last }
 {
     let twosided = light.two_sided;
@@ -77,5 +77,5 @@ pub(crate) fn readings_of(
         lookups.needs_half,
         light.spot,
     );
-    readings_by(lookups, light, inputs, last)
+    readings_by(lookups.tables, light, inputs, last)
 }

@@ -1,19 +1,13 @@
 // What shading passes from one step to the next, in the order in which the steps make it; a fragment's frame is `surface::Frame`.
 use binary32::Place;
-use lighting::Lookup;
+use lighting::TableLookups;
 
-// The lookups of a lighting, and what their inputs need.
+// What a lighting's lights read: the configuration, whether anything reads the half vector, and the lookups of the tables.
 #[derive(Clone, Copy)]
 pub struct LightingLookups {
     pub config: u32,
     pub needs_half: bool,
-    pub distribution0: Option<Lookup>,
-    pub distribution1: Option<Lookup>,
-    pub fresnel: Option<Lookup>,
-    pub reflect_red: Option<Lookup>,
-    pub reflect_green: Option<Lookup>,
-    pub reflect_blue: Option<Lookup>,
-    pub spotlight: Lookup,
+    pub tables: TableLookups,
 }
 
 // Where a value is read: the table, and the place in it.
@@ -35,21 +29,8 @@ pub struct Readings {
     pub fresnel: Option<Reading>,
 }
 
-// What the entries give there: 1 where none is read.
-#[derive(Clone, Copy)]
-pub struct EntryValues {
-    pub distance: f32,
-    pub spot: f32,
-    pub distribution0: f32,
-    pub red: f32,
-    pub green: f32,
-    pub blue: f32,
-    pub distribution1: f32,
-    pub fresnel: f32,
-}
-
-// What the lookups make of that: each its scale's multiple, 1 where it is missing, but green and blue fall back to red. A type of its own, so that what an entry
-// gives is not taken for what its lookup makes of it.
+// The values that are read: what the entries give there, 1 where none is read, and after it what the lookups make of that, each its scale's multiple, 1 where it
+// is missing, but green and blue fall back to red.
 #[derive(Clone, Copy)]
 pub struct Values {
     pub distance: f32,

@@ -2,13 +2,13 @@
 ghost use Rattle.std.specs.Prelude.{◌≡◌, ◌&&◌, is_some};
 ghost use Rattle.light_steps.specs.Steps.{reads_tables, scaled_if, spot_scaled, fresnel_scaled, values_from, unread as unread_of};
 
-use crate::types::{EntryValues, LightingLookups, Values};
-use lighting::{Light, Lookup};
+use crate::types::Values;
+use lighting::{Light, Lookup, TableLookups};
 
 // Whether a light reads any table but its distance table.
 #[inline(always)]
 #[tactic(auto, unfolding(crate::specs::Steps::reads_tables))]
-pub(crate) fn reads_tables(lookups: LightingLookups, light: Light) -> bool
+pub(crate) fn reads_tables(lookups: TableLookups, light: Light) -> bool
     ensures { result ≡ reads_tables lookups light }
 {
     lookups.distribution0.is_some()
@@ -22,7 +22,7 @@ pub(crate) fn reads_tables(lookups: LightingLookups, light: Light) -> bool
 
 // Whether fresnel is applied: in the last slot lit, if there is its lookup.
 #[inline(always)]
-pub(crate) fn applies_fresnel(lookups: LightingLookups, last: bool) -> bool
+pub(crate) fn applies_fresnel(lookups: TableLookups, last: bool) -> bool
     ensures { result ≡ (last && is_some lookups.fresnel) }
 {
     last && lookups.fresnel.is_some()
@@ -59,12 +59,7 @@ fn fresnel_scaled(last: bool, lookup: Option<Lookup>, x: f32) -> f32
 // The values, from what the entries of the readings gave. Green and blue fall back to red.
 #[inline(always)]
 #[tactic(auto, unfolding(crate::specs::Steps::values_from))]
-pub(crate) fn values_from(
-    lookups: LightingLookups,
-    light: Light,
-    read: EntryValues,
-    last: bool,
-) -> Values
+pub(crate) fn values_from(lookups: TableLookups, light: Light, read: Values, last: bool) -> Values
     ensures { result ≡ values_from lookups light read last }
 {
     let red = scaled_if(lookups.reflect_red, read.red, 1.0);

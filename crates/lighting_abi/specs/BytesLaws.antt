@@ -1,18 +1,18 @@
 -- A slice has 4 n bytes exactly if its words are n, whole words or none being counted. So each of block shading's answers is that of the bytes: a refusal by
 -- its length, or what the block gives the fragment. Assumes nothing.
-use Rattle.std.specs.Prelude.{ℕ, ◌*◌, ◌/◌, ◌%◌, ◌<◌, ◌≡◌, Bool, true, false, cond, List, [], eqb, length}
-use Rattle.std.proofs.Common.{arith, subst, ◌∙◌, eq-eqb, eqb-true}
+use Rattle.std.specs.Prelude.{ℕ, ◌*◌, ◌%◌, ◌<◌, ◌≡◌, Bool, true, false, cond, List, [], eqb, length}
+use Rattle.std.proofs.Common.{arith, subst, sym, ◌∙◌, eq-eqb, eqb-true}
 use Rattle.std.proofs.Math.Path.{refl, ap}
 use Rattle.sources.specs.Sources.{words_of}
 use Rattle.sources.specs.SourcesLaws.{length_words}
 use Rattle.lighting_abi.specs.Boundary.{bytes_of, whole_words, answer_bytes, shade_bytes}
 use Rattle.shading.specs.Shade.{Shaded, shaded}
-use Rattle.block_shading.specs.BlockShading.{eight_of_each}
-use Rattle.block_shading.specs.Steps.{is_off, shaded_by_form}
-use Rattle.block_shading.proofs.AnswersLaws.{wrong_block, wrong_tables, wrong_fragment, wrong_answer, by_form_of_one}
+use Rattle.block_shading.specs.BlockShading.{eight_of, block_shading}
+use Rattle.block_shading.proofs.AnswersLaws.{wrong_block, wrong_tables, wrong_fragment, wrong_answer, off_of_one, bad_of_one, lit_of_one}
 use Rattle.block.specs.Block.{words, block_lighting}
 use Rattle.block.specs.Steps.{block_form}
-use Rattle.block_reading.specs.Steps.{is_lit}
+use Rattle.block.specs.declared.BlockForm.TheVariants.{Off, NotWellFormed}
+use Rattle.block_reading.specs.FormLaws.{Lit}
 
 -- n words
 pub right_length : (b : List ℕ) (n : ℕ) → length b ≡ 4 * n → length (whole_words b) ≡ n
@@ -78,21 +78,21 @@ module _ (block tables fragment answer : List ℕ) where
           gf : words_of fragment ≡ whole_words fragment
           gf = words_whole fragment 23 (omega arith) f
 
-          by_words : answer_bytes (shaded_by_form (words_of block) (words_of tables) (words_of fragment) (whole_words answer)) answer ≡ shade_bytes block tables fragment answer
+          -- the right lengths for block shading of the words
+          by_words : (s : Shaded) → (length (whole_words fragment) ≡ 23 → length (whole_words answer) ≡ 8 → length (whole_words block) ≡ 328 → length (whole_words tables) ≡ 12288 → s ≡ block_shading (whole_words block) (whole_words tables) (whole_words fragment) (whole_words answer)) → answer_bytes s answer ≡ shade_bytes block tables fragment answer
           unfolding shade_bytes
-          by_words =
-              ap (λ (s : Shaded). answer_bytes s answer)
-              (rw (gb, gt, gf) (by_form_of_one (whole_words block) (whole_words tables) (whole_words fragment) (whole_words answer) (right_length fragment 23 f) (right_length answer 8 a) (right_length block 328 b) (right_length tables 12288 t)))
+          by_words s k = ap (λ (x : Shaded). answer_bytes x answer) (k (right_length fragment 23 f) (right_length answer 8 a) (right_length block 328 b) (right_length tables 12288 t))
 
-          pub lit_bytes : is_lit (block_form (words_of block)) ≡ true
-              → shaded 0 (bytes_of (eight_of_each (block_lighting (words (words_of block))) (words_of tables) (length (words_of fragment) / 23) (words_of fragment))) ≡ shade_bytes block tables fragment answer
-          unfolding shaded_by_form answer_bytes
-          lit_bytes h = rw h at by_words
+          pub lit_bytes : Lit (words_of block) → shaded 0 (bytes_of (eight_of (block_lighting (words (words_of block))) (words_of tables) (words_of fragment))) ≡ shade_bytes block tables fragment answer
+          unfolding answer_bytes
+          lit_bytes h =
+              let lit : Lit (whole_words block) = subst Lit gb h in
+              rw (gb, gt, gf) (by_words _ (λ m n o p. lit_of_one (whole_words block) (whole_words tables) (whole_words fragment) (whole_words answer) m n o p lit))
 
-          pub off_bytes : is_lit (block_form (words_of block)) ≡ false → is_off (block_form (words_of block)) ≡ true → shaded 100 answer ≡ shade_bytes block tables fragment answer
-          unfolding shaded_by_form answer_bytes
-          off_bytes l o = rw (l, o) at by_words
+          pub off_bytes : block_form (words_of block) ≡ Off → shaded 100 answer ≡ shade_bytes block tables fragment answer
+          unfolding answer_bytes
+          off_bytes h = by_words _ (λ m n o p. off_of_one (whole_words block) (whole_words tables) (whole_words fragment) (whole_words answer) m n o p (ap block_form (sym gb) ∙ h))
 
-          pub bad_bytes : is_lit (block_form (words_of block)) ≡ false → is_off (block_form (words_of block)) ≡ false → shaded 7 answer ≡ shade_bytes block tables fragment answer
-          unfolding shaded_by_form answer_bytes
-          bad_bytes l o = rw (l, o) at by_words
+          pub bad_bytes : block_form (words_of block) ≡ NotWellFormed → shaded 7 answer ≡ shade_bytes block tables fragment answer
+          unfolding answer_bytes
+          bad_bytes h = by_words _ (λ m n o p. bad_of_one (whole_words block) (whole_words tables) (whole_words fragment) (whole_words answer) m n o p (ap block_form (sym gb) ∙ h))

@@ -18,8 +18,7 @@ ghost use Rattle.lighting_abi.specs.Steps.{form_number};
 ghost use Rattle.lighting_abi.specs.Boundary.{write_list, block_read_number, shade_bytes, censused, census_words};
 
 use block::BlockForm;
-use block_reading::{is_lit, is_plain};
-use block_shading::is_off;
+use block_reading::lit::checked;
 use refusals::{Refusal, Switch};
 use sources::words::words_of;
 
@@ -173,29 +172,21 @@ pub extern "C" fn lighting_shade_block(
     if answer.len() != 32 {
         return u32::from(Refusal::WrongFragment);
     }
-    let block_words = words_of(block);
-    let table_words = words_of(tables);
-    let fragment_words = words_of(fragment);
-    let unit = block_shading::slots::unit_quaternion_of(fragment_words, 0);
-    let form = block_check::form(block_words);
-    if is_lit(form) {
-        let mut channels = [0u32; 8];
-        block_shading::slots::shade_each(
-            block_words,
-            table_words,
-            fragment_words,
-            1,
-            unit,
-            is_plain(form),
-            &mut channels,
-        );
-        answer_bytes::put(answer, channels);
-        return 0;
+    let block = <&[[u8; 4]; 328]>::try_from(words_of(block)).unwrap();
+    let tables = <&[[u8; 4]; 12288]>::try_from(words_of(tables)).unwrap();
+    let fragment = <&[[u8; 4]; 23]>::try_from(words_of(fragment)).unwrap();
+    let unit = block_shading::slots::unit_quaternion_of(fragment);
+    match checked(block) {
+        Ok(Some(block)) => {
+            let mut channels = [0u32; 8];
+            let fragments = std::slice::from_ref(fragment);
+            block_shading::slots::shade_each(block, tables, fragments, unit, &mut channels);
+            answer_bytes::put(answer, channels);
+            0
+        }
+        Ok(None) => refusals::switch_number(Ok(Switch::Off)),
+        Err(refusal) => refusals::switch_number(Err(refusal)),
     }
-    if is_off(form) {
-        return refusals::switch_number(Ok(Switch::Off));
-    }
-    u32::from(Refusal::NotWellFormed)
 }
 
 // The eight channels of each fragment, 23 words each, into its 8 words of the answers.

@@ -20,13 +20,16 @@ lighting_lookups l =
     record {
       config = l.config;
       needs_half = l.needs_half;
-      distribution0 = l.distribution0;
-      distribution1 = l.distribution1;
-      fresnel = l.fresnel;
-      reflect_red = l.reflect_red;
-      reflect_green = l.reflect_green;
-      reflect_blue = l.reflect_blue;
-      spotlight = l.spotlight;
+      tables =
+          record {
+            distribution0 = l.distribution0;
+            distribution1 = l.distribution1;
+            fresnel = l.fresnel;
+            reflect_red = l.reflect_red;
+            reflect_green = l.reflect_green;
+            reflect_blue = l.reflect_blue;
+            spotlight = l.spotlight;
+          };
     }
 
 unfoldable pub lighting_settings : Lighting → List Float → Settings

@@ -18,10 +18,15 @@ use sources::words::Word;
 use surface::Frame;
 
 // The eight channels, 0 to 255, in the printed order, from the frame and the shadow.
-// Asks: tables of 12,288 words and a lighting in range, which the caller has looked at before it makes the frame.
+// Asks: a lighting in range, which the caller has looked at before it makes the frame.
 #[tactic(auto, using(block::proofs::PackedLaws::range_count, crate::proofs::Answers::numbered), unfolding(crate::specs::Steps::shade_by))]
-pub fn shade_by<W: Word>(tables: &[W], l: Lighting, frame: Frame, shadow: [f32; 4]) -> [u32; 8]
-    requires { (length tables.now ≡ 12288) × (in_range l ≡ true) }
+pub fn shade_by<W: Word>(
+    tables: &[W; 12288],
+    l: Lighting,
+    frame: Frame,
+    shadow: [f32; 4],
+) -> [u32; 8]
+    requires { in_range l ≡ true }
     ensures { result ≡ shade_by (map W.value tables.now) l frame shadow }
 {
     let lookups = parts::lookups_of(l);
@@ -31,19 +36,20 @@ pub fn shade_by<W: Word>(tables: &[W], l: Lighting, frame: Frame, shadow: [f32; 
 }
 
 // From the quaternion, the view and the texels.
-#[tactic(auto, unfolding(crate::specs::Steps::shade_of))]
+#[tactic(auto, using(block::proofs::PackedLaws::range_bump, block::proofs::PackedLaws::range_shadow), unfolding(surface::specs::Steps::frame_of, crate::specs::Steps::lighting_frame, crate::specs::Steps::lighting_shadow, crate::specs::Steps::shade_of))]
 fn shade_in_range<W: Word>(
     l: Lighting,
-    tables: &[W],
+    tables: &[W; 12288],
     quaternion: [f32; 4],
     view: [f32; 3],
     texels: [[f32; 4]; 4],
 ) -> [u32; 8]
-    requires { (length tables.now ≡ 12288) × (in_range l ≡ true) }
+    requires { in_range l ≡ true }
     ensures { result ≡ shade_of l (map W.value tables.now) quaternion view texels }
 {
-    let frame = parts::frame_of(l, quaternion, view, texels);
-    let shadow = parts::shadow_of(l, texels);
+    let unit = surface::unit_quaternion(quaternion);
+    let frame = parts::frame_of(l, unit, view, texels[lighting::bump_unit(l.bump)]);
+    let shadow = parts::shadow_of(l, texels[lighting::shadow_unit(l.shadow)]);
     shade_by(tables, l, frame, shadow)
 }
 
@@ -60,9 +66,9 @@ pub fn shade(
 ) -> Result<(), Refusal>
     ensures { shaded (outcome_number result) answer.new ≡ shades lighting tables.now quaternion view texels answer.old }
 {
-    if tables.len() != 12288 {
+    let Ok(tables) = <&[u32; 12288]>::try_from(tables) else {
         return Err(Refusal::WrongTables);
-    }
+    };
     if answer.len() != 8 {
         return Err(Refusal::WrongFragment);
     }

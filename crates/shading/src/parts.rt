@@ -1,11 +1,11 @@
-// What shading takes of a lighting: the lookups, the settings of the sums, the frame and the shadow from the texels, and the end.
-ghost use Rattle.std.specs.Prelude.{◌≡◌, ◌≤◌, true};
-ghost use Rattle.lighting.specs.Lighting.{in_range};
-ghost use Rattle.shading.specs.Steps.{lighting_lookups, lighting_settings, lighting_frame, lighting_shadow, finished_of};
+// What shading takes of a lighting: the lookups, the settings of the sums, the frame and the shadow, each from its texel, and the end.
+ghost use Rattle.std.specs.Prelude.{◌≡◌};
+ghost use Rattle.surface.specs.Steps.{frame_by, shadow_texel};
+ghost use Rattle.shading.specs.Steps.{lighting_lookups, lighting_settings, finished_of};
 
 use crate::channels;
 use light_steps::types::{LightingLookups, Settings, Sums};
-use lighting::Lighting;
+use lighting::{Lighting, TableLookups};
 use surface::Frame;
 
 #[inline(always)]
@@ -16,13 +16,15 @@ pub fn lookups_of(l: Lighting) -> LightingLookups
     LightingLookups {
         config: l.config,
         needs_half: l.needs_half,
-        distribution0: l.distribution0,
-        distribution1: l.distribution1,
-        fresnel: l.fresnel,
-        reflect_red: l.reflect_red,
-        reflect_green: l.reflect_green,
-        reflect_blue: l.reflect_blue,
-        spotlight: l.spotlight,
+        tables: TableLookups {
+            distribution0: l.distribution0,
+            distribution1: l.distribution1,
+            fresnel: l.fresnel,
+            reflect_red: l.reflect_red,
+            reflect_green: l.reflect_green,
+            reflect_blue: l.reflect_blue,
+            spotlight: l.spotlight,
+        },
     }
 }
 
@@ -42,29 +44,19 @@ pub fn settings_of(l: Lighting, shadow: [f32; 4]) -> Settings
     }
 }
 
+// From the unit quaternion, the view and the texel of the bump's unit, wherever the caller has them.
 #[inline(always)]
-#[tactic(auto, using(block::proofs::PackedLaws::range_bump), unfolding(surface::specs::Steps::frame_of, crate::specs::Steps::lighting_frame))]
-pub(crate) fn frame_of(
-    l: Lighting,
-    quaternion: [f32; 4],
-    view: [f32; 3],
-    texels: [[f32; 4]; 4],
-) -> Frame
-    requires { in_range l ≡ true }
-    ensures { result ≡ lighting_frame l quaternion view texels }
+pub fn frame_of(l: Lighting, unit: [f32; 4], view: [f32; 3], texel: [f32; 4]) -> Frame
+    ensures { result ≡ frame_by l.bump texel l.config l.needs_view unit view }
 {
-    let texel = texels[lighting::bump_unit(l.bump)];
-    let unit = surface::unit_quaternion(quaternion);
     surface::frame_of(l.bump, texel, l.config, l.needs_view, unit, view)
 }
 
+// From the texel of the shadow's unit.
 #[inline(always)]
-#[tactic(auto, using(block::proofs::PackedLaws::range_shadow), unfolding(crate::specs::Steps::lighting_shadow))]
-pub(crate) fn shadow_of(l: Lighting, texels: [[f32; 4]; 4]) -> [f32; 4]
-    requires { in_range l ≡ true }
-    ensures { result ≡ lighting_shadow l texels }
+pub fn shadow_of(l: Lighting, texel: [f32; 4]) -> [f32; 4]
+    ensures { result ≡ shadow_texel l.shadow texel }
 {
-    let texel = texels[lighting::shadow_unit(l.shadow)];
     surface::shadow::shadow_texel(l.shadow, texel)
 }
 

@@ -1,6 +1,6 @@
 // The sums of a fragment, light by light.
-ghost use Rattle.std.specs.Prelude.{◌≡◌, ◌+◌, ◌<◌, ◌≤◌, length, ◌==◌, map};
-ghost use Rattle.shading.specs.Steps.{Numbered, sums_by};
+ghost use Rattle.std.specs.Prelude.{◌≡◌, ◌+◌, ◌<◌, ◌≤◌, ◌==◌, map};
+ghost use Rattle.shading.specs.Steps.{start_sums, Numbered, sums_by};
 
 use light_steps::types::{LightingLookups, Settings, Sums};
 use lighting::{Light, Slot};
@@ -16,22 +16,30 @@ pub fn is_last(slot: Slot, count: usize) -> bool
     slot.0 + 1 == count
 }
 
+// The sums before any light.
+#[inline(always)]
+pub fn start() -> Sums
+    ensures { result ≡ start_sums }
+{
+    Sums {
+        diffuse: [0.0, 0.0, 0.0, 1.0],
+        specular: [0.0, 0.0, 0.0, 1.0],
+    }
+}
+
 #[tactic(auto, unfolding(crate::specs::Steps::sums_by))]
 pub(crate) fn sum_lights<W: Word>(
-    tables: &[W],
+    tables: &[W; 12288],
     lookups: LightingLookups,
     frame: Frame,
     settings: Settings,
     lights: [Light; 8],
     count: usize,
 ) -> Sums
-    requires { (length tables.now ≡ 12288) × (count ≤ 8) × Numbered lights count }
+    requires { (count ≤ 8) × Numbered lights count }
     ensures { result ≡ sums_by (map W.value tables.now) lookups frame settings lights count count }
 {
-    let mut sums = Sums {
-        diffuse: [0.0, 0.0, 0.0, 1.0],
-        specular: [0.0, 0.0, 0.0, 1.0],
-    };
+    let mut sums = start();
     for slot in 0..count {
         let last = is_last(Slot(slot), count);
         let light = lights[slot];

@@ -2,7 +2,7 @@
 // can't cross the C boundary, so each call here makes them, passes them on and gives words.
 #![tactic(auto)]
 
-ghost use Rattle.std.specs.Prelude.{◌≡◌, length};
+ghost use Rattle.std.specs.Prelude.{◌≡◌};
 ghost use Rattle.shading.specs.Shade.{shaded};
 ghost use Rattle.block.specs.Block.{packing as packing_as};
 ghost use Rattle.block_shading.specs.BlockShading.{block_shading};
@@ -18,17 +18,16 @@ use refusals::{Refusal, Switch};
 fn shade_reading(
     reading: Option<Lighting>,
     tables: &[u32],
-    fragment: &[u32],
+    fragment: &[u32; 23],
     answer: &mut [u32],
 ) -> u32
-    requires { length fragment.now ≡ 23 }
     ensures { shaded result answer.new ≡ shades_reading reading tables.now fragment.now answer.old }
 {
     match reading {
         Some(lighting) => {
-            let quaternion = fragments::quaternion_of(fragment, 0);
-            let view = fragments::view_of(fragment, 0);
-            let texels = fragments::texels_of(fragment, 0);
+            let quaternion = fragments::quaternion_of(fragment);
+            let view = fragments::view_of(fragment);
+            let texels = fragments::texels_of(fragment);
             refusals::outcome_number(shading::shade(
                 lighting, tables, quaternion, view, texels, answer,
             ))
@@ -47,9 +46,9 @@ fn shade_read(
 ) -> u32
     ensures { shaded result answer.new ≡ shades_read read tables.now fragment.now answer.old }
 {
-    if fragment.len() != 23 {
+    let Ok(fragment) = <&[u32; 23]>::try_from(fragment) else {
         return u32::from(Refusal::WrongFragment);
-    }
+    };
     match read {
         Ok(reading) => shade_reading(reading, tables, fragment, answer),
         Err(refusal) => u32::from(refusal),

@@ -38,9 +38,8 @@ pub(crate) fn surface_normal(bump: Bump, texel: [f32; 4]) -> [f32; 3]
     ensures { result ≡ surface_normal bump texel }
 {
     match bump {
-        Bump::Flat => [0.0, 0.0, 1.0],
+        Bump::Flat | Bump::Tangent(_) => [0.0, 0.0, 1.0],
         Bump::Normal(_, rebuild) => rebuilt(rebuild, perturbed(texel)),
-        Bump::Tangent(_) => [0.0, 0.0, 1.0],
     }
 }
 
@@ -51,8 +50,7 @@ pub(crate) fn surface_tangent(bump: Bump, texel: [f32; 4]) -> [f32; 3]
     ensures { result ≡ surface_tangent bump texel }
 {
     match bump {
-        Bump::Flat => [1.0, 0.0, 0.0],
-        Bump::Normal(_, _) => [1.0, 0.0, 0.0],
+        Bump::Flat | Bump::Normal(_, _) => [1.0, 0.0, 0.0],
         Bump::Tangent(_) => perturbed(texel),
     }
 }

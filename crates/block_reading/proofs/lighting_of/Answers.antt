@@ -9,4 +9,4 @@ use Rattle.block_reading.proofs.lighting_of.Goals as goal
 pub returns : goal.returns
 unfolding block_lighting
 returns g c =
-    c.lighting_with.ensures ∙ ap (λ (l : List Light). block_lighting_with (words (map g.W.Word.value c.args.block.now)) l) c.lights_of.ensures
+    c.lighting_with.ensures ∙ ap (λ (l : List Light). block_lighting_with (words (map g.W.Word.value c.args.block.words.now)) l) c.lights_of.ensures

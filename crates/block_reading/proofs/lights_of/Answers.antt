@@ -13,7 +13,7 @@ loop-slot-init g c = rw c.blank_light-lights.ensures refl
 
 pub loop-slot-preserved : goal.loop-slot-preserved
 loop-slot-preserved g c =
-    let w = words (map g.W.Word.value c.args.block.now) in
+    let w = words (map g.W.Word.value c.args.block.words.now) in
     let i = c.loop-slot.slot in
     let lit : i < w 1 = omega arith in
     let more : i < 8 = omega arith in
@@ -21,6 +21,6 @@ loop-slot-preserved g c =
 
 pub returns : goal.returns
 returns g c =
-    let w = words (map g.W.Word.value c.args.block.now) in
+    let w = words (map g.W.Word.value c.args.block.words.now) in
     let all : c.loop-slot.slot ≡ min (w 1) 8 = omega arith in
     c.loop-slot.invariant ∙ all_least w c.loop-slot.slot all

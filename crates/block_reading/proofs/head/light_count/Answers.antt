@@ -2,4 +2,4 @@
 use Rattle.block_reading.proofs.head.light_count.Goals as goal
 
 pub returns : goal.returns
-returns g c = c.value_at.ensures
+returns g c = c.word.ensures

@@ -6,8 +6,8 @@ use Rattle.block_reading.proofs.head.lighting_with.Goals as goal
 
 pub returns : goal.returns
 returns g c =
-    lighting_made (words (map g.W.Word.value c.args.block.now)) _ _ _ _ _
+    lighting_made (words (map g.W.Word.value c.args.block.words.now)) _ _ _ _ _
     c.options_of-options.ensures
     c.lookups_of-lookups.ensures
     c.light_count.ensures
-    c.plain_vector.ensures
+    c.vector.ensures

@@ -5,4 +5,4 @@ use Rattle.block_reading.proofs.head.lookup_of.Goals as goal
 
 pub returns : goal.returns
 unfolding block_lookup
-returns g c = rw (c.value_at.ensures, c.value_at-2.ensures, c.float_of.ensures, c.value_at-3.ensures) refl
+returns g c = rw (c.word.ensures, c.word-2.ensures, c.float_of.ensures, c.word-3.ensures) refl

@@ -5,10 +5,10 @@ use borrow.Author.Tests.{eq-eqb, ne_eqb}
 use Rattle.block.specs.Block.{block_optional_lookup}
 use Rattle.block_reading.proofs.head.optional_lookup_of.Goals as goal
 
-pub returns-then-value_at-eq1 : goal.returns-then-value_at-eq1
+pub returns-then-word-eq1 : goal.returns-then-word-eq1
 unfolding block_optional_lookup
-returns-then-value_at-eq1 g c = rw (add-zero c.args.at, ← c.value_at.ensures, eq-eqb c.value_at.result 1 c.if-value_at-eq1.true, c.lookup_of.ensures) refl
+returns-then-word-eq1 g c = rw (add-zero c.args.at, ← c.word.ensures, eq-eqb c.word.result 1 c.if-word-eq1.true, c.lookup_of.ensures) refl
 
-pub returns-else-value_at-eq1 : goal.returns-else-value_at-eq1
+pub returns-else-word-eq1 : goal.returns-else-word-eq1
 unfolding block_optional_lookup
-returns-else-value_at-eq1 g c = rw (add-zero c.args.at, ← c.value_at.ensures, ne_eqb c.value_at.result 1 c.if-value_at-eq1.false) refl
+returns-else-word-eq1 g c = rw (add-zero c.args.at, ← c.word.ensures, ne_eqb c.word.result 1 c.if-word-eq1.false) refl

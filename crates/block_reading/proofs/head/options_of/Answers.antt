@@ -7,4 +7,4 @@ use Rattle.block_reading.proofs.head.options_of.Goals as goal
 
 pub returns : goal.returns
 unfolding head_options
-returns g c = rw (div-one, c.value_at-needs.ensures, c.value_at.ensures, c.bump_of.ensures, c.value_at-2.ensures, c.shadow_of.ensures, c.value_at-3.ensures, c.value_at-4.ensures, c.value_at-5.ensures, c.value_at-6.ensures) refl
+returns g c = rw (div-one, c.word-needs.ensures, c.word.ensures, c.bump_of.ensures, c.word-2.ensures, c.shadow_of.ensures, c.word-3.ensures, c.word-4.ensures, c.word-5.ensures, c.word-6.ensures) refl

@@ -5,10 +5,10 @@ use borrow.Author.Tests.{eq-eqb, ne_eqb}
 use Rattle.block.specs.Block.{block_distance}
 use Rattle.block_reading.proofs.light.distance_of.Goals as goal
 
-pub returns-then-value_at-eq1 : goal.returns-then-value_at-eq1
+pub returns-then-word-eq1 : goal.returns-then-word-eq1
 unfolding block_distance
-returns-then-value_at-eq1 g c = rw (← c.value_at.ensures, eq-eqb (c.value_at.result / 16 % 2) 1 c.if-value_at-eq1.true, c.float_of.ensures, c.value_at-then-value_at-eq1.ensures, c.float_of-then-value_at-eq1.ensures, c.value_at-then-value_at-eq1-2.ensures) refl
+returns-then-word-eq1 g c = rw (← c.word.ensures, eq-eqb (c.word.result / 16 % 2) 1 c.if-word-eq1.true, c.float_of.ensures, c.word-then-word-eq1.ensures, c.float_of-then-word-eq1.ensures, c.word-then-word-eq1-2.ensures) refl
 
-pub returns-else-value_at-eq1 : goal.returns-else-value_at-eq1
+pub returns-else-word-eq1 : goal.returns-else-word-eq1
 unfolding block_distance
-returns-else-value_at-eq1 g c = rw (← c.value_at.ensures, ne_eqb (c.value_at.result / 16 % 2) 1 c.if-value_at-eq1.false) refl
+returns-else-word-eq1 g c = rw (← c.word.ensures, ne_eqb (c.word.result / 16 % 2) 1 c.if-word-eq1.false) refl

@@ -8,28 +8,27 @@ use Rattle.block_reading.proofs.light.LightMade.{vector_from, vector_first, numb
 use Rattle.block_reading.proofs.light.light_of.Goals as goal
 
 pub distance_of-requires : goal.distance_of-requires
-distance_of-requires g c =
-    (c.requires.0, omega (arith, c.slot_at-at.ensures, c.requires.1))
+distance_of-requires g c = omega (arith, c.slot_at-at.ensures, c.requires)
 
 pub overflow_add-at-8 : goal.overflow_add-at-8
-overflow_add-at-8 g c = omega (arith, c.slot_at-at.ensures, c.requires.1)
+overflow_add-at-8 g c = omega (arith, c.slot_at-at.ensures, c.requires)
 
-pub value_at-requires : goal.value_at-requires
-value_at-requires g c = omega (arith, c.slot_at-at.ensures, c.requires.1)
+pub word-requires : goal.word-requires
+word-requires g c = omega (arith, c.slot_at-at.ensures, c.requires)
 
 pub returns : goal.returns
 returns g c =
-    let w = words (map g.W.Word.value c.args.block.now) in
+    let w = words (map g.W.Word.value c.args.block.words.now) in
     let at = c.slot_at-at.result in
     light_made (from w at) _ _ _ _ _ _ _ _ _ _
-    (c.plain_vector.ensures ∙ vector_first w at)
-    (c.plain_vector-2.ensures ∙ vector_from w at 4)
-    (c.plain_vector-3.ensures ∙ vector_from w at 8)
-    (c.plain_vector-4.ensures ∙ vector_from w at 12)
-    (c.plain_vector-5.ensures ∙ vector_from w at 16)
-    (c.plain_vector-6.ensures ∙ vector_from w at 20)
-    (c.plain_vector-7.ensures ∙ vector_from w at 24)
+    (c.vector.ensures ∙ vector_first w at)
+    (c.vector-2.ensures ∙ vector_from w at 4)
+    (c.vector-3.ensures ∙ vector_from w at 8)
+    (c.vector-4.ensures ∙ vector_from w at 12)
+    (c.vector-5.ensures ∙ vector_from w at 16)
+    (c.vector-6.ensures ∙ vector_from w at 20)
+    (c.vector-7.ensures ∙ vector_from w at 24)
     c.distance_of.ensures
-    (c.light_number.ensures ∙ ap numbered c.value_at.ensures)
-    c.value_at-flags.ensures
+    (c.light_number.ensures ∙ ap numbered c.word.ensures)
+    c.word-flags.ensures
     ∙ ap (λ (i : ℕ). block_light (from w i)) c.slot_at-at.ensures
