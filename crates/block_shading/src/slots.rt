@@ -80,6 +80,21 @@ fn shade_one<B: Word, T: Word, F: Word>(
     shading::parts::finished(head, sums, shadow)
 }
 
+// The eight channels of one fragment, 0 to 255, in the printed order, from its unit quaternion: whoever makes that before the check of the block has its root and
+// quotients done while the check runs. It has no buffer, and no loop over fragments; many are shaded by `shade_each`, which reads the head once.
+#[inline(never)]
+pub fn shade_alone<B: Word, T: Word, F: Word>(
+    block: LitBlock<'_, B>,
+    tables: &[T; 12288],
+    fragment: &[F; 23],
+    unit: [f32; 4],
+) -> [u32; 8]
+    requires { unit ≡ unit_quaternion (quaternion_of (map F.value fragment.now)) }
+    ensures { result ≡ eight_of (block_lighting (words (map B.value block.entry.words.now))) (map T.value tables.now) (map F.value fragment.now) }
+{
+    shade_one(block, tables, fragment, head_of(block), unit)
+}
+
 // The unit quaternion of fragment i: the first one's is there.
 #[inline(always)]
 fn unit_quaternion_at<W: Word>(fragments: &[[W; 23]], i: usize, first: [f32; 4]) -> [f32; 4]
@@ -96,7 +111,8 @@ fn unit_quaternion_at<W: Word>(fragments: &[[W; 23]], i: usize, first: [f32; 4])
 // The eight channels of each fragment, 0 to 255, in the printed order, into its 8 words of the answers. `first` is the first fragment's unit quaternion: whoever
 // makes it before the check of the block has its root and quotients done while the check runs.
 // Asks: 8 words of answers for each fragment, which its callers have counted. The answers are no `&mut [[u32; 8]]`: the library says nothing of what a slice of words
-// ends as when its `as_chunks_mut` has been written to. One function serves one fragment and many.
+// ends as when its `as_chunks_mut` has been written to. It stays a function of its own: put into the call that checks the block it takes up to 2.7 times as long.
+#[inline(never)]
 #[tactic(auto, using(crate::specs::FragmentsLaws::eights_put))]
 pub fn shade_each<B: Word, T: Word, F: Word>(
     block: LitBlock<'_, B>,

@@ -178,9 +178,7 @@ pub extern "C" fn lighting_shade_block(
     let unit = block_shading::slots::unit_quaternion_of(fragment);
     match checked(block) {
         Ok(Some(block)) => {
-            let mut channels = [0u32; 8];
-            let fragments = std::slice::from_ref(fragment);
-            block_shading::slots::shade_each(block, tables, fragments, unit, &mut channels);
+            let channels = block_shading::slots::shade_alone(block, tables, fragment, unit);
             answer_bytes::put(answer, channels);
             0
         }

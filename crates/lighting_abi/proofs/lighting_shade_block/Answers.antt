@@ -9,7 +9,6 @@ use Rattle.block.specs.Steps.{block_form}
 use Rattle.block.specs.declared.BlockForm.TheVariants.{Off, NotWellFormed}
 use Rattle.block_reading.specs.FormLaws.{Lit, found_lit, found_off, found_bad}
 use Rattle.shading.specs.Shade.{shaded}
-use Rattle.block_shading.specs.FragmentsLaws.{eights_of_one}
 use Rattle.lighting_abi.specs.Boundary.{bytes_of}
 use Rattle.lighting_abi.specs.BytesLaws.{words_length, bad_block, bad_tables, bad_fragment, short_answer, lit_bytes, off_bytes, bad_bytes}
 use Rattle.lighting_abi.proofs.lighting_shade_block.Goals as goal
@@ -56,8 +55,7 @@ returns-in-Ok-Some c =
     let g = taken _ c.unwrap-fragment.result.now _ q (rw c.unwrap-fragment.ensures at c.try_from-3.ensures.1) c.words_of-3.ensures in
     let found = found_lit _ _ _ _ _ c.in-Ok-Some.ensures c.in-Ok-Some.field-0-is in
     let lit : Lit (words_of b) = subst Lit e found.1 in
-    let one = eights_of_one (block_lighting (words (words_of b))) (words_of t) word_of c.unwrap-fragment.result.now in
-    let eight = rw (found.0, e, f, c.from_ref-fragments.ensures.value, one, g) at c.shade_each.ensures in
+    let eight = rw (found.0, e, f, g) at c.shade_alone-channels.ensures in
     ap (shaded 0) (c.put.ensures ∙ ap bytes_of eight)
     ∙ lit_bytes b t q c.args.answer.now c.if-block-ne1312.false c.if-tables-ne49152.false c.if-fragment-ne92.false c.if-answer-ne32.false lit
 
