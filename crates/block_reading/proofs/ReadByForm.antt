@@ -7,7 +7,7 @@ use Rattle.refusals.specs.Refusals.{block_refusal}
 use Rattle.lighting.specs.declared.Lighting.{Lighting}
 use Rattle.lighting.specs.Lighting.{off, on}
 use Rattle.block.specs.declared.BlockForm.TheVariants.{Off, NotWellFormed}
-use Rattle.block.specs.Block.{words, block_lighting, block_reading, words_refusal, block_answer, read_refusal, block_read}
+use Rattle.block.specs.Block.{words, block_lighting, block_answer, read_refusal, block_read}
 use Rattle.block.specs.Steps.{block_form}
 use Rattle.block_reading.specs.FormLaws.{Lit, off_passes, off_reads, bad_refused}
 

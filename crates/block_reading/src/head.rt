@@ -22,6 +22,7 @@ struct Options {
 }
 
 #[inline(always)]
+#[tactic(auto, unfolding(block::specs::Block::block_bump))]
 fn bump_of(n: u32) -> Bump
     ensures { result ≡ block_bump n }
 {
@@ -35,6 +36,7 @@ fn bump_of(n: u32) -> Bump
 }
 
 #[inline(always)]
+#[tactic(auto, unfolding(block::specs::Block::block_shadow))]
 fn shadow_of(n: u32) -> Option<Shadow>
     ensures { result ≡ block_shadow n }
 {
@@ -53,6 +55,7 @@ fn shadow_of(n: u32) -> Option<Shadow>
 
 // The lookup of the four words from `at` on: presence, input, absolute, scale.
 #[inline(always)]
+#[tactic(auto, unfolding(block::specs::Block::block_lookup))]
 fn lookup_of<W: Word>(block: LitBlock<'_, W>, at: usize) -> Lookup
     requires { at + 4 ≤ 328 }
     ensures { result ≡ block_lookup (from (words (map W.value block.entry.words.now)) at) }
@@ -65,6 +68,7 @@ fn lookup_of<W: Word>(block: LitBlock<'_, W>, at: usize) -> Lookup
 }
 
 #[inline(always)]
+#[tactic(auto, unfolding(block::specs::Block::block_optional_lookup))]
 fn optional_lookup_of<W: Word>(block: LitBlock<'_, W>, at: usize) -> Option<Lookup>
     requires { at + 4 ≤ 328 }
     ensures { result ≡ block_optional_lookup (from (words (map W.value block.entry.words.now)) at) }
@@ -77,6 +81,7 @@ fn optional_lookup_of<W: Word>(block: LitBlock<'_, W>, at: usize) -> Option<Look
 }
 
 #[inline(always)]
+#[tactic(auto, unfolding(crate::specs::Steps::head_options))]
 fn options_of<W: Word>(block: LitBlock<'_, W>) -> Options
     ensures { result ≡ head_options (words (map W.value block.entry.words.now)) }
 {
@@ -94,6 +99,7 @@ fn options_of<W: Word>(block: LitBlock<'_, W>) -> Options
 }
 
 #[inline(always)]
+#[tactic(auto, unfolding(crate::specs::Steps::head_lookups))]
 fn lookups_of<W: Word>(block: LitBlock<'_, W>) -> TableLookups
     ensures { result ≡ head_lookups (words (map W.value block.entry.words.now)) }
 {

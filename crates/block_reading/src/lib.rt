@@ -16,6 +16,7 @@ use refusals::Refusal;
 use sources::words::Word;
 
 // The lights in their slots, blank beyond the count.
+#[tactic(auto, using(crate::proofs::Lights::one_more, crate::proofs::Lights::all_least, crate::proofs::Lights::lit_slot))]
 fn lights_of<W: Word>(block: LitBlock<'_, W>) -> [Light; 8]
     ensures { result ≡ block_lights (words (map W.value block.entry.words.now)) }
 {
@@ -27,6 +28,7 @@ fn lights_of<W: Word>(block: LitBlock<'_, W>) -> [Light; 8]
 }
 
 // The lighting of a block.
+#[tactic(auto, unfolding(block::specs::Block::block_lighting))]
 pub fn lighting_of<W: Word>(block: LitBlock<'_, W>) -> Lighting
     ensures { result ≡ block_lighting (words (map W.value block.entry.words.now)) }
 {

@@ -10,6 +10,7 @@ use sources::words::Word;
 
 // The distance of the light whose words start at `at`.
 #[inline(always)]
+#[tactic(auto, unfolding(block::specs::Block::block_distance))]
 fn distance_of<W: Word>(block: LitBlock<'_, W>, at: usize) -> Option<Distance>
     requires { at + 36 ≤ 328 }
     ensures { result ≡ block_distance (from (words (map W.value block.entry.words.now)) at) }

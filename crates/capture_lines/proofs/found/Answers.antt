@@ -1,14 +1,12 @@
 -- `capture_lines::found` meets its contract. A wrong length is block shading's first refusal, and once the lengths are right what the check finds of the block says
 -- for every fragment what block shading answers.
-use Rattle.std.proofs.Common.{ℕ, ◌≡◌, sym, ap, subst, ◌∙◌}
+use Rattle.std.proofs.Common.{◌≡◌, sym, ap, subst, ◌∙◌}
 use Rattle.sources.proofs.WordsLaws.{word_values}
-use Rattle.block.specs.Block.{words, block_lighting}
 use Rattle.block.specs.Steps.{block_form}
 use Rattle.block.specs.declared.BlockForm.TheVariants.{Off, NotWellFormed}
 use Rattle.block_reading.specs.FormLaws.{Lit, found_lit, found_off, found_bad}
 use Rattle.block_shading.proofs.AnswersLaws.{wrong_block, wrong_tables}
 use Rattle.capture_lines.specs.Lines.{no_answer}
-use Rattle.capture_lines.specs.Steps.{block_shades, lit_shades}
 use Rattle.capture_lines.specs.FormedLaws.{lit_shades_lem, off_shades, bad_shades}
 use Rattle.capture_lines.proofs.found.Goals as goal
 

@@ -1,20 +1,10 @@
 -- `light::light_of` meets its contract: each part is what the call that makes it ensures.
 use Rattle.std.proofs.Common.{map}
 use Prim.Native.Nat.{ℕ}
-use native.Mathlib.Omega.{arith}
 use mathlib.Core.Path.{ap, ◌∙◌}
 use Rattle.block.specs.Block.{words, from, block_light}
 use Rattle.block_reading.proofs.light.LightMade.{vector_from, vector_first, numbered, light_made}
 use Rattle.block_reading.proofs.light.light_of.Goals as goal
-
-pub distance_of-requires : goal.distance_of-requires
-distance_of-requires g c = omega (arith, c.slot_at-at.ensures, c.requires)
-
-pub overflow_add-at-8 : goal.overflow_add-at-8
-overflow_add-at-8 g c = omega (arith, c.slot_at-at.ensures, c.requires)
-
-pub word-requires : goal.word-requires
-word-requires g c = omega (arith, c.slot_at-at.ensures, c.requires)
 
 pub returns : goal.returns
 returns g c =
