@@ -53,7 +53,7 @@ fn shadow_of(n: u32) -> Option<Shadow>
     }
 }
 
-// The lookup of the four words from `at` on: presence, input, absolute, scale.
+// The lookup of the four words from `at` on: presence, input, absolute, scale. A part is told by its place, as the definitions tell it, and read where it stands.
 #[inline(always)]
 #[tactic(auto, unfolding(block::specs::Block::block_lookup))]
 fn lookup_of<W: Word>(block: LitBlock<'_, W>, at: usize) -> Lookup

@@ -1,16 +1,13 @@
 // Replays a list of register files, and compares the block of each with the Rust module's: how many there were and how many differ, and each difference.
 #![tactic(auto)]
 
+use word_text::word_at;
+
 // How many files were replayed, and how many of those differ.
 #[derive(Clone, Copy, Default)]
 struct Count {
     files: u64,
     differ: u64,
-}
-
-// A word that isn't there counts as 0.
-fn word_of(words: &[u32], at: usize) -> u32 {
-    words.get(at).copied().unwrap_or(0)
 }
 
 // The `count` pairs of a place and a word from `at` on, or as many as are there.
@@ -72,14 +69,14 @@ fn replay(rt: &impl Print, words: &[u32]) -> Count {
     let mut at = 0;
     while at < words.len() {
         let here = &words[at..];
-        let n = word_of(here, 1);
+        let n = word_at(here, 1);
         let after = 2 + 2 * n as usize;
-        let m = word_of(here, after);
+        let m = word_at(here, after);
         count.files = count.files.saturating_add(1);
         let differs = replay_file(
             rt,
             count.files,
-            word_of(here, 0),
+            word_at(here, 0),
             pairs_at(here, 2, n),
             pairs_at(here, after + 1, m),
         );

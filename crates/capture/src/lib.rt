@@ -21,7 +21,8 @@ use capture_check::words::to_words;
 use printing::Lines;
 use refusals::Refusal;
 
-// The lines of an input's words whose size is right: both refusals come before any body runs.
+// The lines of an input's words whose size is right: both refusals come before any body runs. Room for the largest output is asked, here and below, and is no type of
+// its own: what is printed uses it up.
 fn run_words(words: &[u32], lines: &mut Lines<'_>) -> Result<(), Refusal>
     requires { (length words.now ≤ 16384) × HasRoom lines.old largest_output }
     ensures number { outcome_number result ≡ capture_words_refusal words.now }

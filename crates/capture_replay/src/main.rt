@@ -3,6 +3,8 @@
 
 ghost use Rattle.std.specs.Prelude.{◌^◌, ◌<◌};
 
+use word_text::word_at;
+
 // What an entry of the list says of the capture that is being put together.
 enum Entry {
     // words of the list
@@ -23,11 +25,6 @@ impl From<u32> for Entry {
             _ => Entry::MadeWords,
         }
     }
-}
-
-// A word that isn't there counts as 0.
-fn word_of(words: &[u32], at: usize) -> u32 {
-    words.get(at).copied().unwrap_or(0)
 }
 
 // Each number follows from the one before.
@@ -67,7 +64,7 @@ impl Captures<'_> {
     // So many words of the entry that the words begin with, which follow its first two.
     fn put_words(&mut self, words: &[u32], count: u32) {
         for i in 0..count as usize {
-            self.put_word(word_of(words, 2 + i));
+            self.put_word(word_at(words, 2 + i));
         }
     }
 
@@ -105,18 +102,18 @@ fn run(rt: &impl Print, input: &[u8], number: u64) {
 fn step(rt: &impl Print, words: &[u32], captures: &mut Captures) -> usize
     ensures { (0 < result) × (result < 2 ^ 33) }
 {
-    let count = word_of(words, 1);
-    match Entry::from(word_of(words, 0)) {
+    let count = word_at(words, 1);
+    match Entry::from(word_at(words, 0)) {
         Entry::Words => {
             captures.put_words(words, count);
             2 + count as usize
         }
         Entry::MadeWords => {
-            captures.make_words(count, word_of(words, 2), |x| x);
+            captures.make_words(count, word_at(words, 2), |x| x);
             3
         }
         Entry::MadeNumbers => {
-            captures.make_words(count, word_of(words, 2), number_of);
+            captures.make_words(count, word_at(words, 2), number_of);
             3
         }
         Entry::Run => {

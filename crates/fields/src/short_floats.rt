@@ -41,7 +41,8 @@ fn pica_word(bits: u32, mantissa: u32, exponent: u32) -> u32
     sign + biased * 0x80_0000 + bits % unit * power(23 - mantissa)
 }
 
-// A short float with the given mantissa and exponent widths.
+// A short float with the given mantissa and exponent widths. Two numbers and no struct of them: the papers tell them one by one, of the census too, whose caller
+// may give any two.
 // Asks: a mantissa of 1 to 12 bits and an exponent of 2 to 7, which no bit pattern decides: the census tests them, all else has constants.
 #[tactic(auto, unfolding(crate::specs::Fields::short_float))]
 pub fn pica_float(bits: u32, mantissa: u32, exponent: u32) -> f32

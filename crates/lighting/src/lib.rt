@@ -6,7 +6,8 @@ pub mod tables;
 ghost use Rattle.std.specs.Prelude.{◌≡◌};
 ghost use Rattle.lighting.specs.Lighting.{blank_light, blank_lighting, is_scaled, bump_unit, shadow_unit};
 
-// A slot of the lighting: the first `light_count` of the eight are lit.
+// A slot of the lighting: the first `light_count` of the eight are lit. Of slots and of light numbers any number may be one, as in a lighting of a caller's making, of
+// which packing refuses those above 7: so that it is one of the eight is asked where words are taken by it, and is not in the type.
 #[derive(Clone, Copy)]
 pub struct Slot(pub usize);
 

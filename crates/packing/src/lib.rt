@@ -35,7 +35,8 @@ fn put_slot(block: &mut [u32; 328], l: &Lighting, slot: Slot)
 }
 
 // All 328 words.
-// Asks: a lighting in range, as every decoded one is, so that none of its parts is looked at again.
+// Asks: a lighting in range, as every decoded one is, so that none of its parts is looked at again. It is asked, and is no type around a lighting: who decodes has the
+// lighting, and each part would be taken out of the type again.
 pub fn fill(block: &mut [u32; 328], l: Lighting)
     requires { in_range l ≡ true }
     ensures { block.new ≡ packed l }

@@ -5,7 +5,8 @@ ghost use Rattle.block.specs.Block.{lookup_words, vector_words};
 
 use lighting::Lookup;
 
-// Four words from `at` on: the block is rows of four.
+// Four words from `at` on: the block is rows of four. A place and no chunk, here and below: of what a block ends as once its `as_chunks_mut` are written the library
+// says nothing.
 #[tactic(auto, using(crate::specs::PutLaws::part))]
 pub(crate) fn put_row(block: &mut [u32; 328], at: usize, row: [u32; 4])
     requires { at + 4 ≤ 328 }

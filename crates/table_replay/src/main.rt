@@ -3,6 +3,7 @@
 
 use refusals::Refusal;
 use std::fmt;
+use word_text::word_at;
 
 // The words of one call in the list: its kind, two arguments and the answer.
 const CALL_WORDS: usize = 9;
@@ -17,9 +18,9 @@ enum Call {
 impl Call {
     // The call that the words begin with; kind 1 is a write, any other a restore.
     fn from_words(words: &[u32]) -> Call {
-        let a = word_of(words, 1);
-        let b = word_of(words, 2);
-        match word_of(words, 0) {
+        let a = word_at(words, 1);
+        let b = word_at(words, 2);
+        match word_at(words, 0) {
             1 => Call::Write {
                 register: a,
                 value: b,
@@ -68,11 +69,6 @@ struct Count {
     generation: u64,
 }
 
-// A word that isn't there counts as 0.
-fn word_of(words: &[u32], at: usize) -> u32 {
-    words.get(at).copied().unwrap_or(0)
-}
-
 // Words that follow from a seed: each is the one before times 1664525 plus 1013904223, cut to 32 bits, and the first follows so from the seed.
 fn generate(words: &mut [u32], seed: u32) {
     let mut x = seed;
@@ -107,25 +103,25 @@ fn replay_call(
     mut count: Count,
 ) -> Count {
     // tables 24 to 31 have no entry
-    let named = (word_of(file, 0x1C5) % 0x2000) as usize * 2;
+    let named = (word_at(file, 0x1C5) % 0x2000) as usize * 2;
     let written = Call::from_words(words).run(file, entries, count.generation);
     count.calls = count.calls.saturating_add(1);
     count.generation = written.unwrap_or(count.generation);
     let got = Answer {
         number: refusals::outcome_number(written.map(|_| ())),
-        index: word_of(file, 0x1C5),
+        index: word_at(file, 0x1C5),
         generation: (count.generation % 0x1_0000_0000) as u32,
-        value: word_of(entries, named),
-        step: word_of(entries, named + 1),
+        value: word_at(entries, named),
+        step: word_at(entries, named + 1),
         sum: sum_of(entries),
     };
     let wanted = Answer {
-        number: word_of(words, 3),
-        index: word_of(words, 4),
-        generation: word_of(words, 5),
-        value: word_of(words, 6),
-        step: word_of(words, 7),
-        sum: word_of(words, 8),
+        number: word_at(words, 3),
+        index: word_at(words, 4),
+        generation: word_at(words, 5),
+        value: word_at(words, 6),
+        step: word_at(words, 7),
+        sum: word_at(words, 8),
     };
     if got != wanted {
         count.differ = count.differ.saturating_add(1);

@@ -1,7 +1,7 @@
 // Words written as text, eight hexadecimal digits each, which the replayed lists of data/ are made of: a library for tests alone.
 #![tactic(auto)]
 
-ghost use Rattle.std.specs.Prelude.{◌≡◌, ◌≤◌, ◌<◌, length, take, drop, false, IfSome};
+ghost use Rattle.std.specs.Prelude.{◌≡◌, ◌≤◌, ◌<◌, length, get_or, take, drop, false, IfSome};
 ghost use Rattle.std.specs.Counts.{IsPrefixLen};
 ghost use Rattle.word_text.specs.Text.{digit_of, digits_of, is_gap, in_remark, next_of};
 ghost use Rattle.word_text.specs.Load.{loaded, loaded_as, OfSomeText};
@@ -9,6 +9,13 @@ ghost use Rattle.word_text.specs.Load.{loaded, loaded_as, OfSomeText};
 use std::fs;
 use std::io::Read;
 use std::rt::Files;
+
+// Word number `at`; one that isn't there counts as 0.
+pub fn word_at(words: &[u32], at: usize) -> u32
+    ensures { result ≡ get_or words.now at 0 }
+{
+    words.get(at).copied().unwrap_or(0)
+}
 
 // The digit that a byte writes.
 #[tactic(auto, unfolding(crate::specs::Text::digit_of))]
