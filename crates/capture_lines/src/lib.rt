@@ -32,8 +32,8 @@ fn found<'a>(
     }
 }
 
-// The line of a fragment that the block colours. By `shade_each` of the one, though `shade_alone` would need no buffer: with that a capture of 8 lights takes 1.9 times the Rust's time, with this
-// 0.9, and one of 1 light 1.3 and 0.8.
+// The line of a fragment that the block colours. By `shade_each` of the one, though `shade_alone` would need no buffer: with that a capture of 8 lights takes
+// 1.9 times the Rust's time, with this 0.9, and one of 1 light 1.3 and 0.8.
 fn print_lit(
     block: LitBlock<'_, u32>,
     tables: &[u32; 12288],

@@ -8,8 +8,8 @@ use capture_calls::Answer;
 use std::io;
 use std::io::Read;
 
-// Reads until the buffer is full or the input ends; how many bytes there were. A loop over the reads, since a read may bring fewer bytes than there is room for; `read_exact` would not
-// say how many an input has that is shorter than the buffer, and `read_to_end` needs a heap.
+// Reads until the buffer is full or the input ends; how many bytes there were. A loop over the reads, since a read may bring fewer bytes than there is room
+// for; `read_exact` would not say how many an input has that is shorter than the buffer, and `read_to_end` needs a heap.
 fn read_input(rt: &impl io::Input, buf: &mut [u8]) -> io::Result<usize>
     ensures { IfOk result (λ n. n ≤ length buf.new) }
 {

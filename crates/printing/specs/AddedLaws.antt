@@ -1,5 +1,5 @@
--- Texts that are put after one another are put as one, and the lines are then longer by their lengths, while the buffer is as long as before. A refusal's number has at most three digits.
--- Assumes nothing.
+-- Texts that are put after one another are put as one, and the lines are then longer by their lengths, while the buffer is as long as before. A refusal's number has at
+-- most three digits. Assumes nothing.
 use Rattle.std.specs.Prelude.{ℕ, ◌+◌, ◌<◌, ◌≡◌, List, ◌++◌, length}
 use Rattle.std.proofs.Common.{arith, ap, ◌∙◌, sym}
 use Rattle.std.proofs.Math.Seq.{length-sets}

@@ -1,4 +1,5 @@
-// Numbers in decimal. By hand, since no number has more than three digits: `itoa` writes one of any size into a buffer of its own, of 40 bytes, from which it would be copied.
+// Numbers in decimal. By hand, since no number has more than three digits: `itoa` writes one of any size into a buffer of its own, of 40 bytes, from which it would be
+// copied.
 ghost use Rattle.std.specs.Prelude.{◌≡◌, ◌<◌};
 ghost use Rattle.printing.specs.Printing.{digit_byte, decimal};
 ghost use Rattle.printing.specs.Steps.{Adds, HasRoom};

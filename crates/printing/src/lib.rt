@@ -1,5 +1,5 @@
-// The text that a capture prints: a fragment's line, `off`, `refused N`. The lines stand at the front of a buffer that the caller lends, since there is no heap; no line is longer than 32 bytes.
-// `decimals` writes a number, and is read first; the lines stand here.
+// The text that a capture prints: a fragment's line, `off`, `refused N`. The lines stand at the front of a buffer that the caller lends, since there is no heap; no line is
+// longer than 32 bytes. `decimals` writes a number, and is read first; the lines stand here.
 #![tactic(auto)]
 
 mod decimals;

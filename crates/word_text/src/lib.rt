@@ -92,8 +92,8 @@ fn load(text: &[u8], out: &mut [u32]) -> usize
     out.len()
 }
 
-// Reads until the buffer is full, the file ends or a read fails; how many bytes were put at its front. A loop over the reads, since a read may bring fewer bytes than there is room for;
-// `read_exact` would not say how many a file has that is shorter than the buffer, and `read_to_end` needs a heap.
+// Reads until the buffer is full, the file ends or a read fails; how many bytes were put at its front. A loop over the reads, since a read may bring fewer
+// bytes than there is room for; `read_exact` would not say how many a file has that is shorter than the buffer, and `read_to_end` needs a heap.
 fn read_full(file: &mut impl Read, text: &mut [u8]) -> usize
     ensures { IsPrefixLen result text.new }
 {
