@@ -6,6 +6,7 @@ ghost use Rattle.sources.specs.Sources.{same_words};
 
 use crate::RegisterFile;
 use crate::registers::{REG_DISABLE, REG_ENABLE, REG_LIGHT_SLOTS, REG_LIGHTS, REG_TABLE_ABSOLUTE};
+use sources::words::copy;
 
 // How many of `count` words differ, from `from` on in the file and from `at` on in the kept words. It looks at all of them: that is
 // quicker than to stop at the first.
@@ -39,7 +40,7 @@ pub fn keep_registers(file: &RegisterFile, kept: &mut [u32])
     ensures { kept.new ≡ registers_read file.now }
 {
     kept[0] = file[REG_ENABLE];
-    kept[1..134].copy_from_slice(&file[REG_LIGHTS..REG_LIGHTS + 133]);
+    copy(&mut kept[1..134], &file[REG_LIGHTS..REG_LIGHTS + 133]);
     kept[134] = file[REG_DISABLE];
     kept[135..138].copy_from_slice(&file[REG_TABLE_ABSOLUTE..REG_TABLE_ABSOLUTE + 3]);
     kept[138] = file[REG_LIGHT_SLOTS];

@@ -48,3 +48,17 @@ pub fn value_at<W: Word>(words: &[W], at: usize) -> u32
 {
     words[at].value()
 }
+
+// All of `from` into `to`. A loop, since the library's `copy_from_slice` becomes a call of memmove where the compiler doesn't see two slices apart, and the archive for C
+// needs nothing from outside but memcpy and memset.
+// Asks: two of one length; the lengths of a call's slices are looked at before any is changed.
+#[inline(always)]
+#[tactic(auto, using(crate::proofs::Copies::copy_more, crate::proofs::Copies::copy_all))]
+pub fn copy(to: &mut [u32], from: &[u32])
+    requires { length to.old ≡ length from.now }
+    ensures { to.new ≡ from.now }
+{
+    for i in 0..from.len() {
+        to[i] = from[i];
+    }
+}

@@ -3,6 +3,7 @@ ghost use Rattle.std.specs.Prelude.{◌≡◌};
 ghost use Rattle.tables.specs.Tables.{restore as restore_of, save as save_of, restored_of, saved_of};
 
 use refusals::Refusal;
+use sources::words::copy;
 
 // The entries that a saved state had, as they are; the generation afterwards.
 #[tactic(auto, unfolding(crate::specs::Tables::restore_if, crate::specs::Tables::last, refusals::specs::Refusals::tables_refusal, refusals::specs::Refusals::saved_refusal))]
@@ -16,7 +17,7 @@ pub fn restore(tables: &mut [u32], generation: u64, saved: &[u32]) -> Result<u64
         return Err(Refusal::WrongSaved);
     }
     let raised = generation.checked_add(1).ok_or(Refusal::LastGeneration)?;
-    tables.copy_from_slice(saved);
+    copy(tables, saved);
     Ok(raised)
 }
 
@@ -31,6 +32,6 @@ pub fn save(tables: &[u32], output: &mut [u32]) -> Result<(), Refusal>
     if output.len() != 12288 {
         return Err(Refusal::WrongSaved);
     }
-    output.copy_from_slice(tables);
+    copy(output, tables);
     Ok(())
 }

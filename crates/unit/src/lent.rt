@@ -15,6 +15,7 @@ use decoding::registers_read::{are_kept, keep_registers};
 use decoding::{RegisterFile, lit_registers, registers_on};
 use packing::fill;
 use refusals::{Refusal, Switch, switch_number};
+use sources::words::copy;
 
 const CACHE_WORDS: usize = 468;
 
@@ -113,7 +114,7 @@ fn take_block(cache: &[u32], block: &mut [u32]) -> Switch
         block.fill(0);
         return Switch::Off;
     }
-    block.copy_from_slice(&cache[CACHE_BLOCK..CACHE_WORDS]);
+    copy(block, &cache[CACHE_BLOCK..CACHE_WORDS]);
     Switch::On
 }
 
@@ -157,7 +158,7 @@ fn try_hand_over(
     refresh(file, cache)?;
     take_block(cache, block);
     if generation != *age {
-        copied.copy_from_slice(tables);
+        copy(copied, tables);
         *age = generation;
     }
     Ok(())

@@ -7,6 +7,7 @@ ghost use Rattle.unit.specs.Steps.{packs_reading, took, takes};
 use lighting::Lighting;
 use packing::pack;
 use refusals::Refusal;
+use sources::words::copy;
 
 // The block of a lighting, all zero where it is off. A lighting that can't be packed leaves the block.
 fn pack_reading(decoded: Option<Lighting>, block: &mut [u32]) -> Result<(), Refusal>
@@ -36,7 +37,7 @@ pub(crate) fn take(
 {
     pack_reading(decoded, block)?;
     if generation != age {
-        copied.copy_from_slice(tables);
+        copy(copied, tables);
     }
     Ok(())
 }

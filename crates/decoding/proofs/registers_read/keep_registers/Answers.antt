@@ -5,4 +5,4 @@ use Rattle.decoding.proofs.registers_read.keep_registers.Goals as goal
 
 pub returns : goal.returns
 returns c =
-    put_kept c.args.file.now c.args.kept.now _ _ (search rules) c.requires c.copy_from_slice.ensures.after c.copy_from_slice-2.ensures.after
+    put_kept c.args.file.now c.args.kept.now _ _ (search rules) c.requires c.copy.ensures c.copy_from_slice.ensures.after

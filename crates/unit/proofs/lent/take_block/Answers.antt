@@ -20,4 +20,4 @@ returns c =
     let b = cache_block k in
     let whole = c.requires.0 in
     let n : length b ≡ 328 = length-drop 140 k ∙ omega (arith, whole) in
-    (c.copy_from_slice.ensures.after ∙ block_part k whole, lit_block b n (λ e. c.if-cache-eq0.false (sym (get_or-drop 140 k 1 0) ∙ e)))
+    (c.copy.ensures ∙ block_part k whole, lit_block b n (λ e. c.if-cache-eq0.false (sym (get_or-drop 140 k 1 0) ∙ e)))

@@ -43,8 +43,8 @@ take_block-requires c =
     let k = c.if-cache-ne-CACHE_WORDS.false in
     (c.refresh.auto.cache ∙ k, n.3, handed_formed a.file.now a.tables.now a.generation a.cache.now a.block.now a.copied.now a.age.now n.0 n.1 n.2 n.3 k _ r.0 r.1)
 
-pub copy_from_slice-requires : goal.copy_from_slice-requires
-copy_from_slice-requires c =
+pub copy-requires : goal.copy-requires
+copy-requires c =
     let n = hand_over_lengths _ _ _ _ (sym c.in_ok-file.ensures.1) in
     n.2 ∙ sym n.1
 
@@ -54,7 +54,7 @@ returns-then-generation-age c =
     let n = hand_over_lengths _ _ _ _ (sym c.in_ok-file.ensures.1) in
     let r = rw (first_refreshed c.in_ok-file.file.now a.file.now c.in_ok-file.ensures.0 a.cache.now) at c.in_ok-refresh.ensures in
     let k = c.if-cache-ne-CACHE_WORDS.false in
-    rw (c.take_block.ensures.0, c.copy_from_slice.ensures.after)
+    rw (c.take_block.ensures.0, c.copy.ensures)
     (handed_taken a.file.now a.tables.now a.generation a.cache.now a.block.now a.copied.now a.age.now n.0 n.1 n.2 n.3 k _ r.0
     (handed_formed a.file.now a.tables.now a.generation a.cache.now a.block.now a.copied.now a.age.now n.0 n.1 n.2 n.3 k _ r.0 r.1)
     c.if-generation-age.true)

@@ -13,7 +13,7 @@ returns-in_err-pack_reading c =
 pub returns-then-generation-age : goal.returns-then-generation-age
 returns-then-generation-age c =
     let a = c.args in
-    rw c.copy_from_slice.ensures.after
+    rw c.copy.ensures
     (other_takes a.decoded a.tables.now a.generation a.block.now a.copied.now a.age _ c.if-generation-age.true c.in_ok-pack_reading.ensures)
 
 pub returns-else-generation-age : goal.returns-else-generation-age
