@@ -10,17 +10,24 @@ struct Count {
     differ: u64,
 }
 
-// The `count` pairs of a place and a word from `at` on, or as many as are there.
-fn pairs_at(words: &[u32], at: usize, count: u32) -> &[[u32; 2]] {
-    let (pairs, _) = words[at.min(words.len())..].as_chunks::<2>();
-    &pairs[..pairs.len().min(count as usize)]
+fn put(out: &mut [u32], at: u32, word: u32) {
+    if let Some(place) = out.get_mut(at as usize) {
+        *place = word;
+    }
 }
 
-// Each word into its place.
-fn put_pairs(out: &mut [u32], pairs: &[[u32; 2]]) {
-    for [at, word] in pairs {
-        if let Some(place) = out.get_mut(*at as usize) {
-            *place = *word;
+// The `count` pairs of a place and a word from `from` on, each word into its place. A word that isn't there counts as 0, where the list ends before the pairs do.
+fn put_pairs(out: &mut [u32], words: &[u32], from: usize, count: u32) {
+    let (pairs, half) = words[from.min(words.len())..].as_chunks::<2>();
+    for [at, word] in &pairs[..pairs.len().min(count as usize)] {
+        put(out, *at, *word);
+    }
+    if pairs.len() < count as usize {
+        for at in half {
+            put(out, *at, 0);
+        }
+        if pairs.len() + half.len() < count as usize {
+            put(out, 0, 0);
         }
     }
 }
@@ -43,19 +50,13 @@ fn differ(rt: &impl Print, file: u64, block: &[u32; 328], wanted: &[u32; 328]) -
 
 // One file: the number that is due, as the list has it, its registers, and the words of its block that aren't zero. An off file's block stays zero.
 // Whether it differs.
-fn replay_file(
-    rt: &impl Print,
-    file: u64,
-    number: u32,
-    registers: &[[u32; 2]],
-    places: &[[u32; 2]],
-) -> bool {
-    let mut words = [0u32; 474];
+fn replay_file(rt: &impl Print, file: u64, number: u32, words: &[u32], n: u32, m: u32) -> bool {
+    let mut registers = [0u32; 474];
     let mut block = [0u32; 328];
     let mut wanted = [0u32; 328];
-    put_pairs(&mut words, registers);
-    put_pairs(&mut wanted, places);
-    let got = block_abi::block_pack(&words, &mut block);
+    put_pairs(&mut registers, words, 2, n);
+    put_pairs(&mut wanted, words, 3 + 2 * n as usize, m);
+    let got = block_abi::block_pack(&registers, &mut block);
     let found = differ(rt, file, &block, &wanted);
     if got != number {
         print_difference(rt, file, 328, got, number);
@@ -73,13 +74,7 @@ fn replay(rt: &impl Print, words: &[u32]) -> Count {
         let after = 2 + 2 * n as usize;
         let m = word_at(here, after);
         count.files = count.files.saturating_add(1);
-        let differs = replay_file(
-            rt,
-            count.files,
-            word_at(here, 0),
-            pairs_at(here, 2, n),
-            pairs_at(here, after + 1, m),
-        );
+        let differs = replay_file(rt, count.files, word_at(here, 0), here, n, m);
         count.differ = count.differ.saturating_add(differs as u64);
         at += after + 1 + 2 * m as usize;
     }
