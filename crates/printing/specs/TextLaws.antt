@@ -1,11 +1,11 @@
 -- A line of eight numbers has at most 32 bytes, three digits and a gap each; the other two lines are shorter. And a line is its first number,
 -- the gap and the line of the rest. Assumes nothing.
-use Rattle.std.specs.Prelude.{ℕ, ◌+◌, ◌*◌, ◌≤◌, ◌<◌, ◌≡◌, refl, List, [], ◌∷◌, ◌++◌, Bool, true, false, cond, length, get_or, drop, eqb}
+use Rattle.std.specs.Prelude.{ℕ, ◌+◌, ◌*◌, ◌≤◌, ◌<◌, ◌≡◌, refl, List, [], ◌∷◌, ◌++◌, Bool, true, false, cond, length, get_or, drop, set, eqb}
 use Rattle.std.proofs.Common.{arith, sym, ap, ◌∙◌, length-append, eqb-true}
 use Rattle.std.proofs.lemmas.Bool.{eqb-false}
 use Rattle.printing.specs.declared.Lines.{Lines}
-use Rattle.printing.specs.Steps.{Out, puts, so_far, Adds}
-use Rattle.printing.specs.AddedLaws.{added_due}
+use Rattle.printing.specs.Steps.{Out, out, puts, so_far, Adds}
+use Rattle.printing.specs.WritingLaws.{puts_more}
 use Rattle.sources.specs.PieceLaws.{drop_one, drop_none}
 use Rattle.printing.specs.Printing.{decimal, gap, line, refused_line}
 use Rattle.printing.specs.DecimalLaws.{decimal_most}
@@ -44,12 +44,21 @@ gap_at k i e h = go (eqb i 7) refl
     go false t = let n : i ≡ 7 → ⊥ = eqb-false i 7 t in gap_more k (i + 1) (omega arith)
 
 -- a turn: the number i and its gap are put, and the line of the rest is still to come
+pub line_turn_at : (k l l' : List ℕ) (i next end g : ℕ) (all : Out) → length k ≡ 8 → i < 8 → g ≡ cond (eqb i 7) 10 32
+    → out l' end ≡ puts (out l next) (decimal (get_or k i 0)) → puts (out l next) (line (drop i k)) ≡ all
+    → puts (out (set l' end g) (end + 1)) (line (drop (i + 1) k)) ≡ all
+unfolding puts
+line_turn_at k l l' i next end g all n h p e a =
+    puts_more (out l next) (out l' end) all (decimal (get_or k i 0)) (g ∷ line (drop (i + 1) k)) e
+    (ap (λ (x : ℕ). puts (out l next) (decimal (get_or k i 0) ++ (x ∷ line (drop (i + 1) k)))) (p ∙ sym (gap_at k i n h))
+    ∙ ap (puts (out l next)) (sym (line_next k i (omega arith)))
+    ∙ a)
+
+-- the same of lines
 pub line_turn : (a b c : Lines) (k : List ℕ) (i g : ℕ) (all : Out) → length k ≡ 8 → i < 8 → g ≡ cond (eqb i 7) 10 32
     → Adds a b (decimal (get_or k i 0)) → Adds b c (g ∷ []) → puts (so_far a) (line (drop i k)) ≡ all
     → puts (so_far c) (line (drop (i + 1) k)) ≡ all
+unfolding puts
 line_turn a b c k i g all n h p d e o =
-    added_due b c (g ∷ []) e (line (drop (i + 1) k)) all
-    (added_due a b (decimal (get_or k i 0)) d (g ∷ line (drop (i + 1) k)) all
-    (ap (λ (x : ℕ). puts (so_far a) (decimal (get_or k i 0) ++ (x ∷ line (drop (i + 1) k)))) (p ∙ sym (gap_at k i n h))
-    ∙ ap (puts (so_far a)) (sym (line_next k i (omega arith)))
-    ∙ o))
+    ap (λ (x : Out). puts x (line (drop (i + 1) k))) e.after
+    ∙ line_turn_at k a.bytes.now b.bytes.now i a.len b.len g all n h p d.after o

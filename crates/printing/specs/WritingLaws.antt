@@ -47,6 +47,26 @@ module _ (l l' text : List ℕ) (r : ℕ) (e : out l' r ≡ puts (out l 0) text)
   pub put_front : length text ≤ length l → take r l' ≡ text
   put_front h = rw (put_list h) (take_at text (drop (length text) l) r (sym put_size))
 
+-- a few elements stored in a row
+pub puts_two : (l : List ℕ) (i a b : ℕ) → out (set (set l i a) (i + 1) b) (i + 2) ≡ puts (out l i) (a ∷ b ∷ [])
+unfolding puts
+puts_two l i a b = let e : i + 2 ≡ i + 1 + 1 = omega arith in rw e
+
+pub puts_three : (l : List ℕ) (i a b c : ℕ) → out (set (set (set l i a) (i + 1) b) (i + 2) c) (i + 3) ≡ puts (out l i) (a ∷ b ∷ c ∷ [])
+unfolding puts
+puts_three l i a b c =
+    let e : i + 2 ≡ i + 1 + 1 = omega arith in
+    let f : i + 3 ≡ i + 1 + 1 + 1 = omega arith in
+    rw (e, f)
+
+pub puts_four : (l : List ℕ) (i a b c d : ℕ) → out (set (set (set (set l i a) (i + 1) b) (i + 2) c) (i + 3) d) (i + 4) ≡ puts (out l i) (a ∷ b ∷ c ∷ d ∷ [])
+unfolding puts
+puts_four l i a b c d =
+    let e : i + 2 ≡ i + 1 + 1 = omega arith in
+    let f : i + 3 ≡ i + 1 + 1 + 1 = omega arith in
+    let g : i + 4 ≡ i + 1 + 1 + 1 + 1 = omega arith in
+    rw (e, f, g)
+
 -- a text copied as a whole
 pub puts_copied : (l text : List ℕ) (at : ℕ) → at + length text ≤ length l → out (put_mid at (at + length text - at) l text) (at + length text) ≡ puts (out l at) text
 puts_copied l text at h =

@@ -24,7 +24,7 @@ fn gap_after(i: usize) -> u8
 }
 
 impl<'a> Lines<'a> {
-    ghost use Rattle.std.specs.Prelude.{◌≡◌, ◌+◌, ◌≤◌, [], ◌∷◌, length, take};
+    ghost use Rattle.std.specs.Prelude.{◌≡◌, ◌+◌, ◌<◌, ◌≤◌, [], ◌∷◌, length, take};
     ghost use Rattle.refusals.specs.Refusals.{number_of};
     ghost use Rattle.printing.specs.Steps.{out as out_at, so_far as so_far_of, Adds, HasRoom, Bytes};
     ghost use Rattle.printing.specs.Printing.{line, off_line, refused_line};
@@ -89,15 +89,26 @@ impl<'a> Lines<'a> {
         self.put_text(b"off\n");
     }
 
+    // The line of a refusal by its number.
+    // Asks: room for its longest, and a number of at most three digits, as every refusal has.
+    pub fn put_refused_number(&mut self, number: u32)
+        requires { HasRoom self.old 12 × (number < 1000) }
+        ensures text { Adds self.old self.new (refused_line number) }
+        ensures room { self.new.len ≤ self.old.len + 12 }
+    {
+        self.put_text(b"refused ");
+        self.put_decimal(number);
+        self.put_byte(b'\n');
+    }
+
     // The line of a refusal.
     // Asks: room for its longest.
+    #[tactic(auto, using(crate::specs::AddedLaws::refusal_small))]
     pub fn put_refused(&mut self, refusal: Refusal)
         requires { HasRoom self.old 12 }
         ensures text { Adds self.old self.new (refused_line (number_of refusal)) }
         ensures room { self.new.len ≤ self.old.len + 12 }
     {
-        self.put_text(b"refused ");
-        self.put_decimal(u32::from(refusal));
-        self.put_byte(b'\n');
+        self.put_refused_number(u32::from(refusal));
     }
 }
