@@ -2,15 +2,19 @@
 -- power of 2 only if both are; a test of a run of numbers is that of its first part and then of its second, by induction on the second. Assumes nothing.
 use Rattle.std.specs.Cmp.{both_ways}
 use Rattle.std.specs.Prelude.{ℕ, zero, suc, ◌+◌, ◌^◌, ◌<◌, ◌≡◌, refl, Bool, true, false, ◌&&◌, eqb, ltb}
-use Rattle.std.proofs.Common.{arith, add-zero, add-suc, ap, ◌∙◌, eqb-true, ne_eqb, ltb-true, lt-ltb}
+use Rattle.std.proofs.Common.{arith, add-zero, add-suc, add_assoc, ap, ◌∙◌, eqb-true, ne_eqb, ltb-true, lt-ltb}
 use Rattle.std.proofs.Math.Bool.{and-true, and_assoc}
 use Rattle.std.specs.Int.Bits.{bit_or, or_add_and, or_zero_l}
 use Rattle.std.proofs.lemmas.Nat.{or_lt, and_le_l, and_le_r}
 use Rattle.std.proofs.lemmas.Bool.{eqb-false, and_parts}
 use Rattle.lighting.specs.Forms.{every}
+use Rattle.block.specs.Block.{zeros}
 use Rattle.block.specs.TestLaws.{◌also◌}
 use Rattle.block_check.specs.declared.lanes.Lanes.{Lanes}
 use Rattle.block_check.specs.Steps.{clear}
+
+pub is_zero : {m n : ℕ} → m ≡ n → eqb m 0 ≡ eqb n 0
+is_zero e = ap (λ (k : ℕ). eqb k 0) e
 
 pub or_more : (n x : ℕ) (a p : Bool) → eqb n 0 ≡ a → eqb x 0 ≡ p → eqb (bit_or n x) 0 ≡ (a && p)
 or_more n x true p e q = ap (λ (k : ℕ). eqb (bit_or k x) 0) (eqb-true n 0 e) ∙ ap (λ (k : ℕ). eqb k 0) (or_zero_l x) ∙ q
@@ -50,6 +54,19 @@ pub every_more : (p : ℕ → Bool) (n m : ℕ) → every (n + m) p ≡ (every n
 unfolding every
 every_more p n zero = rw (and-true, add-zero n) refl
 every_more p n (suc m) = rw (add-suc n m) (ap (λ (b : Bool). b && p (n + m)) (every_more p n m) ∙ and_assoc (every n p) (every m (λ k. p (n + k))) (p (n + m)))
+
+-- a test of the words from i on is that of the first n, and then of the others
+pub each_more : (t : ℕ → Bool) (w : ℕ → ℕ) (i n m : ℕ) → every (n + m) (λ k. t (w (i + k))) ≡ (every n (λ k. t (w (i + k))) && every m (λ k. t (w (i + n + k))))
+unfolding every
+each_more t w i n zero = rw (and-true, add-zero n) refl
+each_more t w i n (suc m) =
+    rw (add-suc n m)
+    (ap (λ (b : Bool). b && t (w (i + (n + m)))) (each_more t w i n m)
+    ∙ rw (← add_assoc i n m) (and_assoc (every n (λ k. t (w (i + k)))) (every m (λ k. t (w (i + n + k)))) (t (w (i + n + m)))))
+
+pub zeros_more : (w : ℕ → ℕ) (i n m : ℕ) → zeros w i (n + m) ≡ (zeros w i n && zeros w (i + n) m)
+unfolding zeros
+zeros_more w i n m = each_more (λ x. eqb x 0) w i n m
 
 -- a test of n, and then of m more
 pub then_more : (p : ℕ → Bool) (n m : ℕ) (before x y : Bool) → x ≡ (before && every n p) → y ≡ (x && every m (λ k. p (n + k))) → y ≡ (before && every (n + m) p)
