@@ -2,7 +2,7 @@
 -- formed and of free of NaN. Assumes nothing.
 use Rattle.std.specs.Prelude.{ℕ, ◌≡◌, Bool, true, false, cond, eqb, List, length, Option, None, Some, Ok, Err}
 use Rattle.std.proofs.Common.{refl, sym, subst, ◌∙◌, true≢false}
-use borrow.Author.Tests.{eq-eqb}
+use borrow.Author.Tests.{eq-eqb, eqb-true}
 use Rattle.refusals.specs.declared.Refusal.{Refusal}
 use Rattle.refusals.specs.declared.Refusal.TheVariants.{NotWellFormed as BadBlock}
 use Rattle.block.specs.declared.BlockForm.{BlockForm}
@@ -10,14 +10,17 @@ use Rattle.block.specs.declared.BlockForm.TheVariants.{Off, NotWellFormed, NanFr
 use Rattle.lighting.specs.Lighting.{off, on}
 use Rattle.block.specs.Block.{words, all_zero, well_formed, block_lighting, block_reading, words_refusal}
 use Rattle.block.specs.Steps.{nan_free, form_of, block_form}
+use Rattle.block.specs.TestLaws.{never}
 use Rattle.block_reading.specs.Steps.{Found}
 
 -- the form by the tests: of the right length, all zero, well formed, free of NaN
-abbrev form_by : Bool → Bool → Bool → Bool → BlockForm
+abbrev pub form_by : Bool → Bool → Bool → Bool → BlockForm
 form_by sized zero formed free = cond sized (cond zero Off (cond formed (cond free NanFree WithNan) NotWellFormed)) NotWellFormed
 
 -- what is known of a block that is lit
 pub record Lit (b : List ℕ) : Type 0 where
+  pub sized : length b ≡ 328
+  pub not_off : all_zero (words b) ≡ false
   pub formed : well_formed (words b) ≡ true
   pub passes : words_refusal (words b) ≡ 0
   pub reads : block_reading (words b) ≡ on (block_lighting (words b))
@@ -34,10 +37,13 @@ module _ (b : List ℕ) where
   unfolding block_form form_of words_refusal block_reading
   says = go (eqb (length b) 328) (all_zero (words b)) (well_formed (words b)) (nan_free (words b)) refl refl refl refl
     where
+      lit : eqb (length b) 328 ≡ true → all_zero (words b) ≡ false → well_formed (words b) ≡ true → Lit b
+      lit p q r = record { sized = eqb-true (length b) 328 p; not_off = q; formed = r; passes = rw (q, r) refl; reads = rw q refl }
+
       go : (x z g n : Bool) → eqb (length b) 328 ≡ x → all_zero (words b) ≡ z → well_formed (words b) ≡ g → nan_free (words b) ≡ n → Says (form_by x z g n)
       go true true g n p q r s = (rw q refl, rw q refl)
-      go true false true true p q r s = (record { formed = r; passes = rw (q, r) refl; reads = rw q refl }, s)
-      go true false true false p q r s = record { formed = r; passes = rw (q, r) refl; reads = rw q refl }
+      go true false true true p q r s = (lit p q r, s)
+      go true false true false p q r s = lit p q r
       go true false false n p q r s = λ e. rw (q, r) refl
       go false z g n p q r s = λ e. absurd (true≢false (sym (eq-eqb (length b) 328 e) ∙ p))
 
@@ -65,6 +71,10 @@ module _ (b : List ℕ) where
 
   pub free_by_form : block_form b ≡ NanFree → nan_free (words b) ≡ true
   free_by_form e = (said NanFree e).1
+
+  pub free_by_mark : (plain : Bool) → block_form b ≡ cond plain NanFree WithNan → plain ≡ true → nan_free (words b) ≡ true
+  free_by_mark true e k = free_by_form e
+  free_by_mark false e k = never k
 
 -- what was found says what the form is, and of a lit block that its words are those that were checked
 module _ {A : Type 0} (b : List ℕ) (words : A → List ℕ) (plain : A → Bool) where

@@ -3,7 +3,7 @@ ghost use Rattle.std.specs.Prelude.{◌≡◌, ◌+◌, ◌≤◌, map};
 ghost use Rattle.block.specs.Block.{words, from, block_bump, block_shadow, block_lookup, block_optional_lookup, block_lighting_with};
 ghost use Rattle.block_reading.specs.Steps.{head_options, head_lookups};
 
-use crate::lit::LitBlock;
+use crate::lit::MarkedBlock;
 use binary32::float_of;
 use lighting::{Bump, Light, Lighting, Lookup, Shadow, TableLookups};
 use sources::words::Word;
@@ -56,7 +56,7 @@ fn shadow_of(n: u32) -> Option<Shadow>
 // The lookup of the four words from `at` on: presence, input, absolute, scale. A part is told by its place, as the definitions tell it, and read where it stands.
 #[inline(always)]
 #[tactic(auto, unfolding(block::specs::Block::block_lookup))]
-fn lookup_of<W: Word>(block: LitBlock<'_, W>, at: usize) -> Lookup
+fn lookup_of<W: Word>(block: MarkedBlock<'_, W>, at: usize) -> Lookup
     requires { at + 4 ≤ 328 }
     ensures { result ≡ block_lookup (from (words (map W.value block.entry.words.now)) at) }
 {
@@ -69,7 +69,7 @@ fn lookup_of<W: Word>(block: LitBlock<'_, W>, at: usize) -> Lookup
 
 #[inline(always)]
 #[tactic(auto, unfolding(block::specs::Block::block_optional_lookup))]
-fn optional_lookup_of<W: Word>(block: LitBlock<'_, W>, at: usize) -> Option<Lookup>
+fn optional_lookup_of<W: Word>(block: MarkedBlock<'_, W>, at: usize) -> Option<Lookup>
     requires { at + 4 ≤ 328 }
     ensures { result ≡ block_optional_lookup (from (words (map W.value block.entry.words.now)) at) }
 {
@@ -82,7 +82,7 @@ fn optional_lookup_of<W: Word>(block: LitBlock<'_, W>, at: usize) -> Option<Look
 
 #[inline(always)]
 #[tactic(auto, unfolding(crate::specs::Steps::head_options))]
-fn options_of<W: Word>(block: LitBlock<'_, W>) -> Options
+fn options_of<W: Word>(block: MarkedBlock<'_, W>) -> Options
     ensures { result ≡ head_options (words (map W.value block.entry.words.now)) }
 {
     let needs = block.word(7);
@@ -100,7 +100,7 @@ fn options_of<W: Word>(block: LitBlock<'_, W>) -> Options
 
 #[inline(always)]
 #[tactic(auto, unfolding(crate::specs::Steps::head_lookups))]
-fn lookups_of<W: Word>(block: LitBlock<'_, W>) -> TableLookups
+fn lookups_of<W: Word>(block: MarkedBlock<'_, W>) -> TableLookups
     ensures { result ≡ head_lookups (words (map W.value block.entry.words.now)) }
 {
     TableLookups {
@@ -116,7 +116,7 @@ fn lookups_of<W: Word>(block: LitBlock<'_, W>) -> TableLookups
 
 // How many lights are on.
 #[inline(always)]
-pub(crate) fn light_count<W: Word>(block: LitBlock<'_, W>) -> usize
+pub(crate) fn light_count<W: Word>(block: MarkedBlock<'_, W>) -> usize
     ensures { result ≡ words (map W.value block.entry.words.now) 1 }
 {
     block.word(1) as usize
@@ -124,7 +124,7 @@ pub(crate) fn light_count<W: Word>(block: LitBlock<'_, W>) -> usize
 
 // The lighting of a block, with these lights. The block shader reads them where it needs them, and has blank ones here.
 #[inline(always)]
-pub fn lighting_with<W: Word>(block: LitBlock<'_, W>, lights: [Light; 8]) -> Lighting
+pub fn lighting_with<W: Word>(block: MarkedBlock<'_, W>, lights: [Light; 8]) -> Lighting
     ensures { result ≡ block_lighting_with (words (map W.value block.entry.words.now)) lights }
 {
     let options = options_of(block);

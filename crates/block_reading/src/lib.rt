@@ -10,14 +10,14 @@ ghost use Rattle.block.specs.Block.{words, block_lights, block_lighting, block_r
 
 use crate::head::{light_count, lighting_with};
 use crate::light::light_of;
-use crate::lit::{LitBlock, checked};
+use crate::lit::{MarkedBlock, checked};
 use lighting::{Light, Lighting, Slot, blank_light};
 use refusals::Refusal;
 use sources::words::Word;
 
 // The lights in their slots, blank beyond the count.
 #[tactic(auto, using(crate::proofs::Lights::one_more, crate::proofs::Lights::all_least, crate::proofs::Lights::lit_slot))]
-fn lights_of<W: Word>(block: LitBlock<'_, W>) -> [Light; 8]
+fn lights_of<W: Word>(block: MarkedBlock<'_, W>) -> [Light; 8]
     ensures { result ≡ block_lights (words (map W.value block.entry.words.now)) }
 {
     let mut lights = [blank_light(); 8];
@@ -29,7 +29,7 @@ fn lights_of<W: Word>(block: LitBlock<'_, W>) -> [Light; 8]
 
 // The lighting of a block.
 #[tactic(auto, unfolding(block::specs::Block::block_lighting))]
-pub fn lighting_of<W: Word>(block: LitBlock<'_, W>) -> Lighting
+pub fn lighting_of<W: Word>(block: MarkedBlock<'_, W>) -> Lighting
     ensures { result ≡ block_lighting (words (map W.value block.entry.words.now)) }
 {
     lighting_with(block, lights_of(block))
@@ -45,6 +45,6 @@ pub fn read_block(block: &[u32]) -> Result<Option<Lighting>, Refusal>
     };
     match checked(block)? {
         None => Ok(None),
-        Some(block) => Ok(Some(lighting_of(block))),
+        Some(lit) => Ok(Some(lighting_of(lit.marked))),
     }
 }

@@ -2,7 +2,7 @@
 ghost use Rattle.std.specs.Prelude.{◌≡◌, ◌+◌, ◌<◌, ◌≤◌, map};
 ghost use Rattle.block.specs.Block.{words, from, slot_at, block_distance, block_light};
 
-use crate::lit::LitBlock;
+use crate::lit::MarkedBlock;
 use binary32::float_of;
 use block::slot_at;
 use lighting::{Distance, Light, LightNumber, Slot};
@@ -11,7 +11,7 @@ use sources::words::Word;
 // The distance of the light whose words start at `at`.
 #[inline(always)]
 #[tactic(auto, unfolding(block::specs::Block::block_distance))]
-fn distance_of<W: Word>(block: LitBlock<'_, W>, at: usize) -> Option<Distance>
+fn distance_of<W: Word>(block: MarkedBlock<'_, W>, at: usize) -> Option<Distance>
     requires { at + 36 ≤ 328 }
     ensures { result ≡ block_distance (from (words (map W.value block.entry.words.now)) at) }
 {
@@ -35,7 +35,7 @@ fn light_number(word: u32) -> LightNumber
 // The light of a slot's 36 words.
 // Asks: one of the eight slots.
 #[inline(always)]
-pub fn light_of<W: Word>(block: LitBlock<'_, W>, slot: Slot) -> Light
+pub fn light_of<W: Word>(block: MarkedBlock<'_, W>, slot: Slot) -> Light
     requires { slot.0 < 8 }
     ensures { result ≡ block_light (from (words (map W.value block.entry.words.now)) (slot_at slot)) }
 {

@@ -19,10 +19,10 @@ use surface::Frame;
 #[inline(always)]
 #[tactic(auto, unfolding(crate::specs::Steps::head_of))]
 fn head_of<W: Word>(block: LitBlock<'_, W>) -> Lighting
-    ensures { result ≡ head_of (words (map W.value block.entry.words.now)) }
+    ensures { result ≡ head_of (words (map W.value block.entry.marked.words.now)) }
 {
     let lights = [blank_light(); 8];
-    block_reading::head::lighting_with(block, lights)
+    block_reading::head::lighting_with(block.marked, lights)
 }
 
 #[inline(always)]
@@ -44,12 +44,12 @@ fn sum_slots<B: Word, T: Word>(
     settings: Settings,
     count: usize,
 ) -> Sums
-    requires { count ≡ words (map B.value block.words.now) 1 }
-    ensures { result ≡ sums_by (map T.value tables.now) lookups frame settings (block_lights (words (map B.value block.entry.words.now))) count count }
+    requires { count ≡ words (map B.value block.marked.words.now) 1 }
+    ensures { result ≡ sums_by (map T.value tables.now) lookups frame settings (block_lights (words (map B.value block.entry.marked.words.now))) count count }
 {
     let mut sums = shading::sums::start();
     for slot in 0..count {
-        let light = light_of(block, Slot(slot));
+        let light = light_of(block.marked, Slot(slot));
         let last = shading::sums::is_last(Slot(slot), count);
         sums = light_steps::step(tables, lookups, frame, settings, last, light, sums);
     }
@@ -66,8 +66,8 @@ fn shade_one<B: Word, T: Word, F: Word>(
     head: Lighting,
     unit: [f32; 4],
 ) -> [u32; 8]
-    requires { (head ≡ head_of (words (map B.value block.words.now))) × (unit ≡ unit_quaternion (quaternion_of (map F.value fragment.now))) }
-    ensures { result ≡ eight_of (block_lighting (words (map B.value block.entry.words.now))) (map T.value tables.now) (map F.value fragment.now) }
+    requires { (head ≡ head_of (words (map B.value block.marked.words.now))) × (unit ≡ unit_quaternion (quaternion_of (map F.value fragment.now))) }
+    ensures { result ≡ eight_of (block_lighting (words (map B.value block.entry.marked.words.now))) (map T.value tables.now) (map F.value fragment.now) }
 {
     let view = fragments::view_of(fragment);
     let bump = fragments::texel_at(fragment, lighting::bump_unit(head.bump));
@@ -90,7 +90,7 @@ pub fn shade_alone<B: Word, T: Word, F: Word>(
     unit: [f32; 4],
 ) -> [u32; 8]
     requires { unit ≡ unit_quaternion (quaternion_of (map F.value fragment.now)) }
-    ensures { result ≡ eight_of (block_lighting (words (map B.value block.entry.words.now))) (map T.value tables.now) (map F.value fragment.now) }
+    ensures { result ≡ eight_of (block_lighting (words (map B.value block.entry.marked.words.now))) (map T.value tables.now) (map F.value fragment.now) }
 {
     shade_one(block, tables, fragment, head_of(block), unit)
 }
@@ -122,7 +122,7 @@ pub fn shade_each<B: Word, T: Word, F: Word>(
     answers: &mut [u32],
 )
     requires { (length answers.old ≡ 8 * length fragments.now) × (0 < length fragments.now → first ≡ unit_quaternion (quaternion_of (map F.value (slice_index_or fragments.now 0 [])))) }
-    ensures { answers.new ≡ eights (block_lighting (words (map B.value block.entry.words.now))) (map T.value tables.now) F.value fragments.now }
+    ensures { answers.new ≡ eights (block_lighting (words (map B.value block.entry.marked.words.now))) (map T.value tables.now) F.value fragments.now }
 {
     let head = head_of(block);
     for i in 0..fragments.len() {

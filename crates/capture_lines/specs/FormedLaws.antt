@@ -9,7 +9,8 @@ use Rattle.block.specs.Steps.{block_form}
 use Rattle.block.specs.declared.BlockForm.TheVariants.{Off, NotWellFormed}
 use Rattle.block_reading.specs.FormLaws.{Lit}
 use Rattle.block_shading.proofs.AnswersLaws.{off_of_one, bad_of_one, lit_of_one}
-use Rattle.capture_lines.specs.Lines.{no_answer}
+use Rattle.printing.specs.Printing.{off_line}
+use Rattle.capture_lines.specs.Lines.{no_answer, shown_line}
 use Rattle.capture_lines.specs.Steps.{block_shades, lit_shades, unlit_shades, found_shades}
 
 module _ (b t q : List ℕ) (block : length b ≡ 328) (tables : length t ≡ 12288) (fragment : length q ≡ 23) where
@@ -25,3 +26,7 @@ module _ (b t q : List ℕ) (block : length b ≡ 328) (tables : length t ≡ 12
 -- what was found to be off
 pub off_found : {A : Type 0} (shades : A → List ℕ → Shaded) (r : Result (Option A) Refusal) (o : Option A) (q : List ℕ) → r ≡ Ok o → o ≡ None → found_shades shades r q ≡ unlit_shades 100 q
 off_found shades r o q e f = rw (e, f) refl
+
+pub off_found_shown : {A : Type 0} (shades : A → List ℕ → Shaded) (r : Result (Option A) Refusal) (q : List ℕ) → r ≡ Ok None → shown_line (found_shades shades r q) ≡ off_line
+unfolding shown_line
+off_found_shown shades r q e = rw e refl

@@ -9,8 +9,8 @@ use Rattle.std.proofs.Math.Bool.{true, false}
 use Rattle.std.proofs.Math.ListN.{length, length-append, length-drop}
 use Rattle.std.proofs.Common.{drop-drop, length-take-le, get_or, ap, ◌∙◌}
 use Rattle.printing.specs.declared.Lines.{Lines}
-use Rattle.printing.specs.Steps.{Out, puts, so_far, Adds}
-use Rattle.printing.specs.AddedLaws.{added_due}
+use Rattle.printing.specs.Steps.{Out, out, puts, so_far, Adds}
+use Rattle.printing.specs.WritingLaws.{puts_more}
 use Rattle.printing.specs.TextLaws.{line_most, refused_most}
 use Rattle.printing.specs.Printing.{line, off_line, refused_line}
 use Rattle.refusals.specs.Refusals.{number_of}
@@ -44,12 +44,18 @@ module _ (f : List ℕ → Shaded) (ws : List ℕ) where
   unfolding fragment_lines
   lines_none i n h = let e : n - i ≡ 0 = omega arith in rw e
 
+  pub lines_turn_at : (l l' : List ℕ) (i n next end : ℕ) (q : List ℕ) (all : Out) → i < n → q ≡ take 23 (drop (23 * i) ws)
+      → out l' end ≡ puts (out l next) (shown_line (f q)) → puts (out l next) (fragment_lines f (n - i) (drop (23 * i) ws)) ≡ all
+      → puts (out l' end) (fragment_lines f (n - (i + 1)) (drop (23 * (i + 1)) ws)) ≡ all
+  lines_turn_at l l' i n next end q all h p e a =
+      puts_more (out l next) (out l' end) all (shown_line (f q)) (fragment_lines f (n - (i + 1)) (drop (23 * (i + 1)) ws)) e
+      (rw p (rw (lines_next i n h) at a))
+
+  -- the same of lines
   pub lines_turn : (a b : Lines) (i n : ℕ) (q : List ℕ) (all : Out) → i < n → q ≡ take 23 (drop (23 * i) ws)
       → Adds a b (shown_line (f q)) → puts (so_far a) (fragment_lines f (n - i) (drop (23 * i) ws)) ≡ all
       → puts (so_far b) (fragment_lines f (n - (i + 1)) (drop (23 * (i + 1)) ws)) ≡ all
-  lines_turn a b i n q all h p e o =
-      added_due a b (shown_line (f q)) e (fragment_lines f (n - (i + 1)) (drop (23 * (i + 1)) ws)) all
-      (rw p (rw (lines_next i n h) at o))
+  lines_turn a b i n q all h p e o = lines_turn_at a.bytes.now b.bytes.now i n a.len b.len q all h p e.after o
 
 -- a line of eight numbers, `off` and `refused N` have at most 32 bytes
 line_fits : (s : Shaded) → length s.answer ≡ 8 → length (shown_line s) ≤ 32

@@ -17,7 +17,7 @@ fn found<'a>(
     block: &'a [u32],
     tables: &'a [u32],
 ) -> Result<Option<(LitBlock<'a, u32>, &'a [u32; 12288])>, Refusal>
-    ensures { (q : List ℕ) → length q ≡ 23 → block_shades block.now tables.now q ≡ found_shades (λ lit. lit_shades (block_lighting (words lit.0.words.now)) lit.1.now) result q }
+    ensures { (q : List ℕ) → length q ≡ 23 → block_shades block.now tables.now q ≡ found_shades (λ lit. lit_shades (block_lighting (words lit.0.marked.words.now)) lit.1.now) result q }
 {
     let Ok(block) = <&[u32; 328]>::try_from(block) else {
         return Err(Refusal::WrongBlock);
@@ -41,7 +41,7 @@ fn print_lit(
     lines: &mut Lines<'_>,
 )
     requires { HasRoom lines.old 32 }
-    ensures text { Adds lines.old lines.new (shown_line (lit_shades (block_lighting (words block.entry.words.now)) tables.now fragment.now)) }
+    ensures text { Adds lines.old lines.new (shown_line (lit_shades (block_lighting (words block.entry.marked.words.now)) tables.now fragment.now)) }
     ensures room { lines.new.len ≤ lines.old.len + 32 }
 {
     let mut k = [0u32; 8];
@@ -51,13 +51,14 @@ fn print_lit(
 }
 
 // The line of a fragment, by what was found of the block and the tables: its colours, `off`, or a refusal.
+#[tactic(auto, using(crate::specs::FormedLaws::off_found_shown))]
 fn print_fragment(
     found: Result<Option<(LitBlock<'_, u32>, &[u32; 12288])>, Refusal>,
     fragment: &[u32; 23],
     lines: &mut Lines<'_>,
 )
     requires { HasRoom lines.old 32 }
-    ensures text { Adds lines.old lines.new (shown_line (found_shades (λ lit. lit_shades (block_lighting (words lit.0.words.now)) lit.1.now) found.entry fragment.now)) }
+    ensures text { Adds lines.old lines.new (shown_line (found_shades (λ lit. lit_shades (block_lighting (words lit.0.marked.words.now)) lit.1.now) found.entry fragment.now)) }
     ensures room { lines.new.len ≤ lines.old.len + 32 }
 {
     match found {

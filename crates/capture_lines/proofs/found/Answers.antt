@@ -22,7 +22,7 @@ returns-in-Ok-Some c q h =
     let checked = word_values c.in-Ok.block.now ∙ c.in-Ok.ensures.1.same in
     let found = found_lit _ _ _ _ _ c.in-Ok-Some.ensures c.in-Ok-Some.field-0-is in
     let lit : Lit b = subst Lit checked found.1 in
-    let e : c.in-Ok-Some.block.words.now ≡ b = sym (word_values c.in-Ok-Some.block.words.now) ∙ found.0 ∙ checked in
+    let e : c.in-Ok-Some.block.marked.words.now ≡ b = sym (word_values c.in-Ok-Some.block.marked.words.now) ∙ found.0 ∙ checked in
     rw (e, c.in-Ok-try_from.ensures.1.same) (lit_shades_lem b c.args.tables.now q c.in-Ok.ensures.1.long c.in-Ok-try_from.ensures.1.long h lit)
 
 pub returns-in-Ok-None : goal.returns-in-Ok-None

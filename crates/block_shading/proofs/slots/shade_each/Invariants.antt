@@ -8,4 +8,4 @@ use Rattle.block_shading.proofs.slots.shade_each.Given as goal
 abbrev pub invariant-loop-i : goal.invariant-loop-i
 invariant-loop-i g l =
     take (8 * l.i) l.answers
-    ≡ eights (block_lighting (words (map g.B.Word.value l.block.words.now))) (map g.T.Word.value l.tables) g.F.Word.value (take l.i l.fragments)
+    ≡ eights (block_lighting (words (map g.B.Word.value l.block.marked.words.now))) (map g.T.Word.value l.tables) g.F.Word.value (take l.i l.fragments)
