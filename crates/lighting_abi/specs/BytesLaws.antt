@@ -1,10 +1,11 @@
 -- A slice has 4 n bytes exactly if its words are n, whole words or none being counted. So each of block shading's answers is that of the bytes: a refusal by
 -- its length, or what the block gives the fragment. Assumes nothing.
-use Rattle.std.specs.Prelude.{ℕ, ◌*◌, ◌%◌, ◌<◌, ◌≡◌, Bool, true, false, cond, List, [], eqb, length}
-use Rattle.std.proofs.Common.{arith, subst, sym, ◌∙◌, eq-eqb, eqb-true}
+use Rattle.std.specs.Prelude.{ℕ, zero, suc, ◌+◌, ◌*◌, ◌/◌, ◌%◌, ◌≤◌, ◌<◌, ◌≡◌, Bool, true, false, cond, List, [], ◌∷◌, eqb, length, get_or}
+use Rattle.std.proofs.Common.{arith, subst, sym, ◌∙◌, eq-eqb, ne_eqb, eqb-true}
 use Rattle.std.proofs.Math.Path.{refl, ap}
 use Rattle.sources.specs.Sources.{words_of}
 use Rattle.sources.specs.SourcesLaws.{length_words}
+use Rattle.lighting_abi.specs.Steps.{given, word_at}
 use Rattle.lighting_abi.specs.Boundary.{bytes_of, whole_words, answer_bytes, shade_bytes}
 use Rattle.shading.specs.Shade.{Shaded, shaded}
 use Rattle.block_shading.specs.BlockShading.{eight_of, block_shading}
@@ -34,6 +35,44 @@ words_whole b n h e = rw (eq-eqb (length b % 4) 0 (omega arith)) refl
 
 pub words_length : (b : List ℕ) (n : ℕ) → 0 < n → length b ≡ 4 * n → length (words_of b) ≡ n
 words_length b n h e = ap length (words_whole b n h e) ∙ right_length b n e
+
+-- word i of some bytes is made of the four from 4 i on
+pub word_at_lem : (l : List ℕ) (i : ℕ) → 4 * i + 4 ≤ length l → get_or (words_of l) i 0 ≡ word_at l i
+unfolding words_of word_at
+word_at_lem (a ∷ b ∷ c ∷ d ∷ rest) zero h = refl
+word_at_lem (a ∷ b ∷ c ∷ d ∷ rest) (suc i) h =
+    let e0 : 4 * suc i ≡ suc (suc (suc (suc (4 * i)))) = omega arith in
+    let e1 : 4 * suc i + 1 ≡ suc (suc (suc (suc (4 * i + 1)))) = omega arith in
+    let e2 : 4 * suc i + 2 ≡ suc (suc (suc (suc (4 * i + 2)))) = omega arith in
+    let e3 : 4 * suc i + 3 ≡ suc (suc (suc (suc (4 * i + 3)))) = omega arith in
+    rw (e1, e2, e3, e0) (word_at_lem rest i (omega arith))
+word_at_lem (a ∷ b ∷ c ∷ []) i h = absurd (omega arith)
+word_at_lem (a ∷ b ∷ []) i h = absurd (omega arith)
+word_at_lem (a ∷ []) i h = absurd (omega arith)
+word_at_lem [] i h = absurd (omega arith)
+
+-- with no bytes the words are those of the slice of words, with some they are those of the bytes
+pub given-words : (words bytes : List ℕ) → length bytes ≡ 0 → given words bytes ≡ words
+unfolding given
+given-words words bytes e = rw (eq-eqb (length bytes) 0 e) refl
+
+pub given_bytes : (words bytes : List ℕ) → (length bytes ≡ 0 → ⊥) → given words bytes ≡ words_of bytes
+unfolding given
+given_bytes words bytes h = rw (ne_eqb (length bytes) 0 h) refl
+
+-- how far the words reach
+pub in_words : (words bytes : List ℕ) (i : ℕ) → length bytes ≡ 0 → i < length (given words bytes) → i < length words
+in_words words bytes i e h = rw (given-words words bytes e) at h
+
+pub in_bytes : (words bytes : List ℕ) (i : ℕ) → (length bytes ≡ 0 → ⊥) → i < length (given words bytes) → i < length bytes / 4
+in_bytes words bytes i e h = rw (given_bytes words bytes e, length_words bytes) at h
+
+-- with no slice of words, the words are those of the bytes
+pub given_whole : (b : List ℕ) (n : ℕ) → 0 < n → length b ≡ 4 * n → given [] b ≡ whole_words b
+given_whole b n h e = given_bytes [] b (λ z. let q : length b ≡ 0 = z in omega arith) ∙ words_whole b n h e
+
+pub given-length : (b : List ℕ) (n : ℕ) → 0 < n → length b ≡ 4 * n → length (given [] b) ≡ n
+given-length b n h e = ap length (given_whole b n h e) ∙ right_length b n e
 
 -- a number that isn't 0 leaves the bytes
 left : (k : ℕ) (s : Shaded) (words answer : List ℕ) → eqb k 0 ≡ false → shaded k words ≡ s → shaded k answer ≡ answer_bytes s answer

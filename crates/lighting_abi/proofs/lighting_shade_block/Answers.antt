@@ -4,7 +4,6 @@ use Rattle.std.proofs.Common.{ℕ, ◌≡◌, List, length, map, arith, sym, ap,
 use Rattle.std.specs.Array.{IsWholeChunk}
 use Rattle.std.proofs.lemmas.List.{length-map}
 use Rattle.sources.specs.Sources.{word_of, words_of}
-use Rattle.block.specs.Block.{words, block_lighting}
 use Rattle.block.specs.Steps.{block_form}
 use Rattle.block.specs.declared.BlockForm.TheVariants.{Off, NotWellFormed}
 use Rattle.block_reading.specs.FormLaws.{Lit, found_lit, found_off, found_bad}
