@@ -1,7 +1,7 @@
 -- What the form of a block says of its words, and how a block of that form is answered and read. A form is decided by four tests: of length, of all zero, of well
 -- formed and of free of NaN. Assumes nothing.
-use Rattle.std.specs.Prelude.{ℕ, ◌≡◌, Bool, true, false, cond, eqb, List, length, Option, None, Some, Ok, Err}
-use Rattle.std.proofs.Common.{refl, sym, subst, ◌∙◌, true≢false}
+use Rattle.std.specs.Prelude.{ℕ, ◌≡◌, Bool, true, false, cond, eqb, List, length, Option, None, Some, is_some, Ok, Err}
+use Rattle.std.proofs.Common.{arith, refl, sym, ap, subst, ◌∙◌, true≢false}
 use borrow.Author.Tests.{eq-eqb, eqb-true}
 use Rattle.refusals.specs.declared.Refusal.{Refusal}
 use Rattle.refusals.specs.declared.Refusal.TheVariants.{NotWellFormed as BadBlock}
@@ -65,6 +65,16 @@ module _ (b : List ℕ) where
   pub lit_by_form : (plain : Bool) → block_form b ≡ cond plain NanFree WithNan → Lit b
   lit_by_form true e = (said NanFree e).0
   lit_by_form false e = said WithNan e
+
+  -- lit, for whoever knows not the form but that 328 words pass and read as a lighting
+  pub lit_by_reading : length b ≡ 328 → words_refusal (words b) ≡ 0 → block_reading (words b) ≡ on (block_lighting (words b)) → Lit b
+  unfolding words_refusal block_reading
+  lit_by_reading n p r = go (all_zero (words b)) (well_formed (words b)) refl refl
+    where
+      go : (z g : Bool) → all_zero (words b) ≡ z → well_formed (words b) ≡ g → Lit b
+      go true g q s = absurd (true≢false (sym (ap is_some (rw q at r))))
+      go false true q s = record { sized = n; not_off = q; formed = s; passes = p; reads = r }
+      go false false q s = absurd (let z : 7 ≡ 0 = rw (q, s) at p in omega arith)
 
   pub formed_by_form : (plain : Bool) → block_form b ≡ cond plain NanFree WithNan → well_formed (words b) ≡ true
   formed_by_form plain e = (lit_by_form plain e).formed
